@@ -1,0 +1,9 @@
+-- `registers::numbered` meets its contract. Assumes nothing.
+use borrow.Author.Needs.{needs}
+use borrow.Author.Tests.{le-leb, lt-leb}
+use Rattle.registers.proofs.numbered.Statement.{statement}
+use Rattle.registers.proofs.numbered.Tie as tie
+
+pub numbered-spec : {M : Type 1} → statement M
+numbered-spec =
+    tie.close (tie.spec (λ c. search needs) (λ c. simp (le-leb _ _ (c .if1 .taken))) (λ c. simp (lt-leb _ _ (c .if1 .left))))

@@ -1,0 +1,30 @@
+-- Looking for what stands at an address in a list of things that have addresses.
+use mathlib.Core.Bool.{Bool, true, false}
+use mathlib.Core.List.{List, [], _∷_, _++_}
+use Prim.Native.Nat.{ℕ, zero, suc}
+use lib.Dec.{eqb}
+use Rattle.registers.specs.declared.Idx.{Idx}
+use Rattle.registers.specs.declared.Idx.the-variants.{At, Refused}
+
+-- what stands at an address
+pub data Spot (X : Type 0) : Type 0 where
+  is : X → Spot X
+  nothing : Spot X
+
+abbrev pub here : ℕ → Idx → Bool
+here a (At b) = eqb b a
+here a (Refused n) = false
+
+-- the first of the list whose address, by idx, is a
+abbrev pub find : {X : Type 0} → (X → Idx) → ℕ → List X → Spot X
+find idx a [] = nothing
+find idx a (x ∷ xs) = elim (here a (idx x)) [ true ↦ is x | false ↦ find idx a xs ]
+
+-- n - 1, .. 1, 0
+abbrev pub downFrom : ℕ → List ℕ
+downFrom zero = []
+downFrom (suc n) = n ∷ downFrom n
+
+abbrev pub join : {X : Type 0} → List (List X) → List X
+join [] = []
+join (b ∷ bs) = b ++ join bs
