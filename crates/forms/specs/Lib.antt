@@ -1,0 +1,5 @@
+pub mod Layout
+pub mod Segments
+pub mod Table
+pub mod Speech
+pub mod Demand3
