@@ -18,7 +18,7 @@ use Rattle.forms.proofs.Laws.{Held, holds-true, read-build, read-holds,
 pub no-form : {F X : Type 0} (n : ℕ) (f : F) → none n ≡ form f → X
 no-form n f q = let z : _≡_ {A = ℕ} 0 1 = cc in absurd (omega arith)
 
-same-form : (L M : Layout) → form L ≡ form M → L ≡ M
+pub same-form : (L M : Layout) → form L ≡ form M → L ≡ M
 same-form L M e = cc
 
 first-true : (p : Layout → Bool) (T : List Layout) (n : ℕ) (L : Layout) → first p T n ≡ form L → p L ≡ true

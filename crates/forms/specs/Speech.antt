@@ -3,13 +3,13 @@
 use Prim.Native.Nat.{ℕ, _^_, _<_}
 use mathlib.Core.Path.{_≡_}
 use mathlib.Core.Bool.{Bool, true, false, _&&_, _||_, cond}
-use mathlib.Core.List.{List, [], _∷_}
+use mathlib.Core.List.{List, [], _∷_, map}
 use lib.Dec.{eqb, leb, ltb}
 use Rattle.utils.specs.declared.Code.{Code}
 use Rattle.utils.specs.declared.Code.the-variants.{Is, Out}
 use Rattle.forms.specs.declared.Wrote.{Wrote}
 use Rattle.forms.specs.declared.Wrote.the-variants.{Word, Refused}
-use Rattle.forms.specs.Layout.{Layout, Operand, imm, short, all, every, Piece, piece, from, lit, pieces, size, width, read, build, readable, chosen, holds}
+use Rattle.forms.specs.Layout.{Layout, Operand, imm, short, others, all, every, Piece, piece, from, lit, pieces, size, width, read, build, readable, chosen, holds}
 use Rattle.forms.specs.Table.{Kind, form, none, first}
 
 pub record Speech (I : Type 0) : Type 0 where
@@ -57,7 +57,25 @@ writeAs S i (none n) = Refused n
 abbrev pub writeOf : {I : Type 0} → List Layout → Speech I → I → Wrote
 writeOf T S i = writeAs S i (first (chosen (S .ops i)) T (S .why-not i))
 
--- ---- what makes a Speech faithful: operands, each below its limit, and instructions say the same
+-- ---- what makes a Speech faithful to a table: the operands of a word of a line, and the instruction that they make, say the same
+abbrev pub listed : (Operand → ℕ) → List ℕ
+listed env = map env (imm ∷ others)
+
+pub record Says {I : Type 0} (S : Speech I) (L : Layout) (w : ℕ) : Type 0 where
+  pub ops : listed (S .ops (S .make (read L w))) ≡ listed (read L w)
+  pub code : S .code (S .make (read L w)) ≡ Is (read L w imm)
+  pub room : roomOf (S .is-short (S .make (read L w))) ≡ 2 ^ width L
+
+abbrev pub Every : (Layout → Type 0) → List Layout → Type 0
+Every P [] = Unit {0}
+Every P (L ∷ T) = P L × Every P T
+
+pub record Faithful {I : Type 0} (T : List Layout) (S : Speech I) : Type 0 where
+  pub lines : Every (λ L. (w : ℕ) → Says S L w) T
+  pub code-ops : (i : I) (n : ℕ) → S .code i ≡ Is n → n ≡ S .ops i imm
+  pub make-ops : (i : I) (n : ℕ) → S .code i ≡ Is n → S .make (S .ops i) ≡ i
+
+-- a Speech that is faithful whatever the line, so long as each operand is below a limit
 pub record Speaks {I : Type 0} (S : Speech I) (limit : Operand → ℕ) : Type 0 where
   pub ops-make : (env : Operand → ℕ) → ((x : Operand) → env x < limit x) → (x : Operand) → S .ops (S .make env) x ≡ env x
   pub code-make : (env : Operand → ℕ) → ((x : Operand) → env x < limit x) → S .code (S .make env) ≡ Is (env imm)

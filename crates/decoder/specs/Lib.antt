@@ -1,0 +1,5 @@
+pub mod Forms
+pub mod Funct3
+pub mod Load
+pub mod Store
+pub mod System

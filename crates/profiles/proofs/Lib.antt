@@ -1,0 +1,5 @@
+pub mod Arms
+pub mod Laws
+pub mod Flags
+pub mod Size
+pub mod Tables

@@ -1,0 +1,4 @@
+pub mod Profile
+pub mod Gates
+pub mod Count
+pub mod Table
