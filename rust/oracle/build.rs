@@ -15,17 +15,12 @@ const FILES: [&str; 3] = ["src/decoder.rs", "src/arch/registers.rs", "src/utils.
 
 /// The file of the rest of `arch`, which needs a RISC-V machine, and the items of it that the decoder needs.
 const ARCH: &str = "src/arch/mod.rs";
-const ITEMS: [&str; 4] = [
-    "pub struct ExtensionsCapability {",
-    "pub enum Width {",
-    "impl Width {",
-    "impl From<usize> for Width {",
-];
+const ITEMS: [&str; 4] = ["pub struct ExtensionsCapability {", "pub enum Width {", "impl Width {", "impl From<usize> for Width {"];
 
 fn main() {
     println!("cargo::rustc-check-cfg=cfg(have_miralis)");
     println!("cargo::rerun-if-env-changed=MIRALIS_SRC");
-    // Both packages that share this script stand two folders below the top.
+    // The packages that share this script stand two folders below the top.
     let top = PathBuf::from(var("CARGO_MANIFEST_DIR")).join("../..");
     let folder = env::var_os("MIRALIS_SRC").map_or_else(|| top.join(DEFAULT), PathBuf::from);
     for file in FILES.iter().chain([&ARCH]) {
@@ -37,21 +32,31 @@ fn main() {
             println!("cargo::rustc-cfg=have_miralis");
             // for the build scripts of those that stand on this package
             println!("cargo::metadata=have=1");
-            modules(&folder)
+            modules(&folder, &decoder(&top, &folder))
         }
         _ => String::new(),
     };
     fs::write(&out, text).unwrap_or_else(|e| panic!("{}: {e}", out.display()));
 }
 
+/// The decoder: Miralis's own, or for the package that has this feature what stands in for it over the proved library.
+fn decoder(top: &Path, folder: &Path) -> PathBuf {
+    if env::var_os("CARGO_FEATURE_STAND_IN").is_none() {
+        return folder.join(FILES[0]);
+    }
+    let file = top.join("rust/miralis/decoder.rs");
+    println!("cargo::rerun-if-changed={}", file.display());
+    file.canonicalize().unwrap_or_else(|e| panic!("{}: {e}", file.display()))
+}
+
 /// The modules of the text, which src/lib.rs includes.
-fn modules(folder: &Path) -> String {
-    let [decoder, registers, utils] = FILES.map(|f| format!("{:?}", folder.join(f)));
+fn modules(folder: &Path, decoder: &Path) -> String {
+    let [_, registers, utils] = FILES.map(|f| format!("{:?}", folder.join(f)));
     let arch = folder.join(ARCH);
     let arch = fs::read_to_string(&arch).unwrap_or_else(|e| panic!("{}: {e}", arch.display()));
     let items: String = ITEMS.iter().map(|head| cut(&arch, head)).collect();
     format!(
-        "#[path = {decoder}]\npub mod decoder;\n#[path = {utils}]\npub mod utils;\n\
+        "#[path = {decoder:?}]\npub mod decoder;\n#[path = {utils}]\npub mod utils;\n\
          pub mod arch {{\n#[path = {registers}]\nmod registers;\npub use registers::{{Csr, Register, csr}};\n{items}}}\n"
     )
 }

@@ -104,7 +104,13 @@ mod run {
     }
 
     fn number(n: usize) -> String {
-        if n == usize::MAX { "2^64 - 1".into() } else if n < 100 { n.to_string() } else { format!("{n:#X}") }
+        if n == usize::MAX {
+            "2^64 - 1".into()
+        } else if n < 100 {
+            n.to_string()
+        } else {
+            format!("{n:#X}")
+        }
     }
 
     /// The calls on one build of the text. Each build is a crate with types of its own, so the code is written out for each.
@@ -112,7 +118,8 @@ mod run {
         ($name:ident, $oracle:ident) => {
             mod $name {
                 use super::{Call, Did};
-                use $oracle::arch::{Csr, Width};
+                use $oracle::arch::Csr;
+                use $oracle::calls;
                 use $oracle::decoder::IllegalInst::{self, *};
                 use $oracle::host::MiralisContext;
 
@@ -122,29 +129,29 @@ mod run {
 
                 fn answer(call: Call) -> String {
                     match call {
-                        Call::System { flags, raw } => system(MiralisContext::with_flags(flags).decode_illegal_instruction(raw as usize)),
+                        Call::System { flags, raw } => system(calls::system(&MiralisContext::with_flags(flags), raw as usize)),
                         Call::Load { raw } => {
-                            let l = MiralisContext::with_flags(0).decode_load(raw as usize);
+                            let l = calls::load(&MiralisContext::with_flags(0), raw as usize);
                             let sign = if l.is_unsigned { "unsigned" } else { "signed" };
                             format!("load {} {sign}, rd {}, base {}, {}", l.len.to_bits(), l.rd as u8, l.rs1 as u8, l.imm)
                         }
                         Call::Store { raw } => {
-                            let s = MiralisContext::with_flags(0).decode_store(raw as usize);
+                            let s = calls::store(&MiralisContext::with_flags(0), raw as usize);
                             format!("store {}, rs2 {}, base {}, {}", s.len.to_bits(), s.rs2 as u8, s.rs1 as u8, s.imm)
                         }
                         Call::DecodeCsr { flags, address } => {
-                            let csr = MiralisContext::with_flags(flags).decode_csr(address as usize);
+                            let csr = calls::decode_csr(&MiralisContext::with_flags(flags), address as usize);
                             csr.map_or("none".into(), |c| format!("{c:?}"))
                         }
-                        Call::Pmpcfg(id) => format!("{:#X}", Csr::Pmpcfg(id).idx()),
-                        Call::Pmpaddr(id) => format!("{:#X}", Csr::Pmpaddr(id).idx()),
-                        Call::Mhpmcounter(id) => format!("{:#X}", Csr::Mhpmcounter(id).idx()),
-                        Call::Mhpmevent(id) => format!("{:#X}", Csr::Mhpmevent(id).idx()),
-                        Call::Custom(id) => format!("{:#X}", Csr::Custom(id).idx()),
-                        Call::Address { base, imm } => format!("{:#X}", $oracle::utils::calculate_addr(base, imm)),
-                        Call::Bits { raw, start, end } => $oracle::utils::bits_to_int(raw, start, end).to_string(),
-                        Call::Width(bits) => format!("{:?}", Width::from(bits)),
-                        Call::Register(value) => format!("{:?}", $oracle::arch::Register::from(value)),
+                        Call::Pmpcfg(id) => format!("{:#X}", calls::idx(Csr::Pmpcfg(id))),
+                        Call::Pmpaddr(id) => format!("{:#X}", calls::idx(Csr::Pmpaddr(id))),
+                        Call::Mhpmcounter(id) => format!("{:#X}", calls::idx(Csr::Mhpmcounter(id))),
+                        Call::Mhpmevent(id) => format!("{:#X}", calls::idx(Csr::Mhpmevent(id))),
+                        Call::Custom(id) => format!("{:#X}", calls::idx(Csr::Custom(id))),
+                        Call::Address { base, imm } => format!("{:#X}", calls::calculate_addr(base, imm)),
+                        Call::Bits { raw, start, end } => calls::bits_to_int(raw, start, end).to_string(),
+                        Call::Width(bits) => format!("{:?}", calls::width(bits)),
+                        Call::Register(value) => format!("{:?}", calls::register(value)),
                     }
                 }
 
@@ -175,7 +182,7 @@ mod run {
         one: Call,
         /// What document 01 wants for `one`.
         wanted: &'static str,
-        /// More calls of the class, which must all go as the first does: answered, or the same panic.
+        /// The class, or some of it: the row says how many are answered, and how many end in which panic. Empty: `one` alone.
         more: Vec<Call>,
     }
 
@@ -199,9 +206,10 @@ mod run {
             if checked != wrapped {
                 did = format!("debug {did}; release {}", wrapped.text());
             }
-            // how the others of the class go, in the debug build
-            let mut ways: Vec<(String, u64)> = vec![(checked.kind(), 1)];
-            for c in &r.more {
+            // how the words of the class go, in the debug build
+            let mut ways: Vec<(String, u64)> = Vec::new();
+            let class = if r.more.is_empty() { std::slice::from_ref(&r.one) } else { &r.more[..] };
+            for c in class {
                 let kind = debug::call(*c).kind();
                 match ways.iter_mut().find(|w| w.0 == kind) {
                     Some(w) => w.1 += 1,
@@ -254,97 +262,115 @@ mod run {
     const ANY: &[u64] = &[0, 1, 2, 3, 4, 5, 6, 7];
 
     pub fn all() {
-        table("The load reading", &[
-            row("low two bits 10", load(0x4502), "5").with(halves(2, ANY).map(load)),
-            row("low two bits 01", load(0x4501), "3").with(halves(1, ANY).map(load)),
-            row("00, funct3 0 (c.addi4spn, and all zeros)", load(0x0000), "3").with(halves(0, &[0]).map(load)),
-            row("00, funct3 1 (c.fld), 0x2000 among them", load(0x2000), "3").with(halves(0, &[1]).map(load)),
-            row("00, funct3 4 (Zcb, else reserved)", load(0x8000), "3").with(halves(0, &[4]).map(load)),
-            row("00, funct3 5 (c.fsd)", load(0xA000), "3").with(halves(0, &[5]).map(load)),
-            row("00, funct3 6, 7: the stores c.sw, c.sd", load(0xDFFC), "3").with(halves(0, &[6, 7]).map(load)),
-            row("00, funct3 2, rubbish above bit 15", load(0xDEAD_5FFC), "load 32, rd 15, base 15, 124")
-                .with(halves(0, &[2, 3]).map(|w| load(w | 0xDEAD_BEEF_DEAD_0000))),
-            row("11, opcode 0x07: flw f5,-2048(x10)", load(0x8005_2287), "3").with(words(|o| o == 0x07, ANY).map(load)),
-            row("11, opcode 0x23: a store's word", load(0xFEB1_3C23), "3").with(words(|o| o == 0x23, ANY).map(load)),
-            row("11, opcode 0x2F: lr.w x5,(x10)", load(0x1005_22AF), "3").with(words(|o| o == 0x2F, ANY).map(load)),
-            row("11, opcode 0x73: csrrs x5,mhartid,x0", load(0xF140_22F3), "3").with(words(|o| o == 0x73, ANY).map(load)),
-            row("11, any opcode but 0x03", load(0xFFFF_FFFF), "3").with(words(|o| o != 0x03, ANY).map(load)),
-            row("opcode 0x03, funct3 7", load(0x8005_7283), "4").with(words(|o| o == 0x03, &[7]).map(load)),
-            row("opcode 0x03, rubbish above bit 31", load(0xDEAD_BEEF_8005_2283), "load 32 signed, rd 5, base 10, -2048")
-                .with(words(|o| o == 0x03, &[0, 1, 2, 3, 4, 5, 6]).map(|w| load(w | 0xDEAD_BEEF << 32))),
-        ]);
-        table("The store reading", &[
-            row("low two bits 10", store(0xC502), "5").with(halves(2, ANY).map(store)),
-            row("low two bits 01", store(0xC501), "3").with(halves(1, ANY).map(store)),
-            row("00, funct3 0, 1, 4, 5", store(0x0000), "3").with(halves(0, &[0, 1, 4, 5]).map(store)),
-            row("00, funct3 2, 3: the loads c.lw, c.ld", store(0x5FFC), "3").with(halves(0, &[2, 3]).map(store)),
-            row("00, funct3 7, rubbish above bit 15", store(0xDEAD_FD64), "store 64, rs2 9, base 10, 248")
-                .with(halves(0, &[6, 7]).map(|w| store(w | 0xDEAD_BEEF_DEAD_0000))),
-            row("11, opcode 0x27: fsw f11,-8(x2)", store(0xFEB1_2C27), "3").with(words(|o| o == 0x27, &[0, 1, 2, 3]).map(store)),
-            row("11, opcode 0x03: a load's word", store(0x8005_2283), "3").with(words(|o| o == 0x03, &[0, 1, 2, 3]).map(store)),
-            row("11, opcode 0x2F: sc.w x5,x11,(x10)", store(0x18B5_22AF), "3").with(words(|o| o == 0x2F, &[0, 1, 2, 3]).map(store)),
-            row("11, any opcode but 0x23, funct3 0 to 3", store(0xFFFF_BFFF), "3").with(words(|o| o != 0x23, &[0, 1, 2, 3]).map(store)),
-            row("11, any opcode but 0x23, funct3 4 to 7", store(0xFFFF_FFFF), "3").with(words(|o| o != 0x23, &[4, 5, 6, 7]).map(store)),
-            row("opcode 0x23, funct3 4 to 7", store(0xFEB1_4C23), "4").with(words(|o| o == 0x23, &[4, 5, 6, 7]).map(store)),
-            row("opcode 0x23, rubbish above bit 31", store(0xDEAD_BEEF_FEB1_3C23), "store 64, rs2 11, base 2, -8")
-                .with(words(|o| o == 0x23, &[0, 1, 2, 3]).map(|w| store(w | 0xDEAD_BEEF << 32))),
-        ]);
+        table(
+            "The load reading",
+            &[
+                row("low two bits 10", load(0x4502), "5").with(halves(2, ANY).map(load)),
+                row("low two bits 01", load(0x4501), "3").with(halves(1, ANY).map(load)),
+                row("00, funct3 0 (c.addi4spn, and all zeros)", load(0x0000), "3").with(halves(0, &[0]).map(load)),
+                row("00, funct3 1 (c.fld), 0x2000 among them", load(0x2000), "3").with(halves(0, &[1]).map(load)),
+                row("00, funct3 4 (Zcb, else reserved)", load(0x8000), "3").with(halves(0, &[4]).map(load)),
+                row("00, funct3 5 (c.fsd)", load(0xA000), "3").with(halves(0, &[5]).map(load)),
+                row("00, funct3 6, 7: the stores c.sw, c.sd", load(0xDFFC), "3").with(halves(0, &[6, 7]).map(load)),
+                row("00, funct3 2, rubbish above bit 15", load(0xDEAD_5FFC), "load 32 signed, rd 15, base 15, 124")
+                    .with(halves(0, &[2, 3]).map(|w| load(w | 0xDEAD_BEEF_DEAD_0000))),
+                row("11, opcode 0x07: flw f5,-2048(x10)", load(0x8005_2287), "3").with(words(|o| o == 0x07, ANY).map(load)),
+                row("11, opcode 0x23: a store's word", load(0xFEB1_3C23), "3").with(words(|o| o == 0x23, ANY).map(load)),
+                row("11, opcode 0x2F: lr.w x5,(x10)", load(0x1005_22AF), "3").with(words(|o| o == 0x2F, ANY).map(load)),
+                row("11, opcode 0x73: csrrs x5,mhartid,x0", load(0xF140_22F3), "3").with(words(|o| o == 0x73, ANY).map(load)),
+                row("11, any opcode but 0x03", load(0xFFFF_FFFF), "3").with(words(|o| o != 0x03, ANY).map(load)),
+                row("opcode 0x03, funct3 7", load(0x8005_7283), "4").with(words(|o| o == 0x03, &[7]).map(load)),
+                row("opcode 0x03, rubbish above bit 31", load(0xDEAD_BEEF_8005_2283), "load 32 signed, rd 5, base 10, -2048")
+                    .with(words(|o| o == 0x03, &[0, 1, 2, 3, 4, 5, 6]).map(|w| load(w | 0xDEAD_BEEF << 32))),
+            ],
+        );
+        table(
+            "The store reading",
+            &[
+                row("low two bits 10", store(0xC502), "5").with(halves(2, ANY).map(store)),
+                row("low two bits 01", store(0xC501), "3").with(halves(1, ANY).map(store)),
+                row("00, funct3 0, 1, 4, 5", store(0x0000), "3").with(halves(0, &[0, 1, 4, 5]).map(store)),
+                row("00, funct3 2, 3: the loads c.lw, c.ld", store(0x5FFC), "3").with(halves(0, &[2, 3]).map(store)),
+                row("00, funct3 7, rubbish above bit 15", store(0xDEAD_FD64), "store 64, rs2 9, base 10, 248")
+                    .with(halves(0, &[6, 7]).map(|w| store(w | 0xDEAD_BEEF_DEAD_0000))),
+                row("11, opcode 0x27: fsw f11,-8(x2)", store(0xFEB1_2C27), "3").with(words(|o| o == 0x27, &[0, 1, 2, 3]).map(store)),
+                row("11, opcode 0x03: a load's word", store(0x8005_2283), "3").with(words(|o| o == 0x03, &[0, 1, 2, 3]).map(store)),
+                row("11, opcode 0x2F: sc.w x5,x11,(x10)", store(0x18B5_22AF), "3").with(words(|o| o == 0x2F, &[0, 1, 2, 3]).map(store)),
+                row("11, any opcode but 0x23, funct3 0 to 3", store(0xFFFF_BFFF), "3").with(words(|o| o != 0x23, &[0, 1, 2, 3]).map(store)),
+                row("11, any opcode but 0x23, funct3 4 to 7", store(0xFFFF_FFFF), "3").with(words(|o| o != 0x23, &[4, 5, 6, 7]).map(store)),
+                row("opcode 0x23, funct3 4 to 7", store(0xFEB1_4C23), "4").with(words(|o| o == 0x23, &[4, 5, 6, 7]).map(store)),
+                row("opcode 0x23, rubbish above bit 31", store(0xDEAD_BEEF_FEB1_3C23), "store 64, rs2 11, base 2, -8")
+                    .with(words(|o| o == 0x23, &[0, 1, 2, 3]).map(|w| store(w | 0xDEAD_BEEF << 32))),
+            ],
+        );
         let system = |flags, raw| Call::System { flags, raw };
-        table("The SYSTEM reading: where the manuals want something else", &[
-            row("sret with no S", system(NONE, 0x1020_0073), "SRET"),
-            row("sfence.vma with no S", system(NONE, 0x12B5_0073), "sfence.vma 10, 11"),
-            row("hfence.vvma with no H", system(NONE, 0x22B5_0073), "hfence.vvma 10, 11"),
-            row("hfence.gvma with no H", system(NONE, 0x62B5_0073), "hfence.gvma 10, 11"),
-            row("csrrs x5,seed,x0: seed read and not written", system(CRYPTO, 0x0150_22F3), "set, seed, rd 5, rs1 0"),
-            row("csrrci x5,seed,0: the same", system(CRYPTO, 0x0150_72F3), "clear immediate, seed, rd 5, 0"),
-            row("csrrs x10,hpmcounter3,x0", system(ZIHPM, 0xC030_2573), "2")
-                .with((0xC03..=0xC1F).map(|a| system(ALL, a << 20 | 0x2573))),
-            row("ebreak", system(ALL, 0x0010_0073), "1"),
-            row("sinval.vma x10,x11", system(ALL, 0x16B5_0073), "1"),
-            row("sfence.w.inval", system(ALL, 0x1800_0073), "1"),
-            row("mnret", system(ALL, 0x7020_0073), "1"),
-            row("hlv.w x5,(x10): funct3 4", system(ALL, 0x6805_42F3), "1"),
-            row("CSR form, bits above 31", system(NONE, 0x1_F140_22F3), "as 0xF14022F3"),
-            row("CSR form, bits above 31", system(NONE, 0xDEAD_BEEF_3A03_1073), "as 0x3A031073"),
-            row("wfi, bits above 31", system(NONE, 0x1_1050_0073), "1"),
-            row("fence, bits above 31", system(NONE, 0x1_12B5_0073), "1"),
-        ]);
+        table(
+            "The SYSTEM reading: where the manuals want something else",
+            &[
+                row("sret with no S", system(NONE, 0x1020_0073), "Sret"),
+                row("sfence.vma with no S", system(NONE, 0x12B5_0073), "sfence.vma 10, 11"),
+                row("hfence.vvma with no H", system(NONE, 0x22B5_0073), "hfence.vvma 10, 11"),
+                row("hfence.gvma with no H", system(NONE, 0x62B5_0073), "hfence.gvma 10, 11"),
+                row("csrrs x5,seed,x0: seed read and not written", system(CRYPTO, 0x0150_22F3), "set Seed, rd 5, 0"),
+                row("csrrci x5,seed,0: the same", system(CRYPTO, 0x0150_72F3), "clear immediate Seed, rd 5, 0"),
+                row("csrrs x10,hpmcounter3,x0", system(ZIHPM, 0xC030_2573), "2")
+                    .with((0xC03..=0xC1F).map(|a| system(ALL, a << 20 | 0x2573))),
+                row("ebreak", system(ALL, 0x0010_0073), "1"),
+                row("sinval.vma x10,x11", system(ALL, 0x16B5_0073), "1"),
+                row("sfence.w.inval", system(ALL, 0x1800_0073), "1"),
+                row("mnret", system(ALL, 0x7020_0073), "1"),
+                row("hlv.w x5,(x10): funct3 4", system(ALL, 0x6805_42F3), "1"),
+                row("CSR form, bits above 31", system(NONE, 0x1_F140_22F3), "as 0xF14022F3"),
+                row("CSR form, bits above 31", system(NONE, 0xDEAD_BEEF_3A03_1073), "as 0x3A031073"),
+                row("wfi, bits above 31", system(NONE, 0x1_1050_0073), "1"),
+                row("fence, bits above 31", system(NONE, 0x1_12B5_0073), "1"),
+            ],
+        );
         let decode = |flags, address| Call::DecodeCsr { flags, address };
-        table("`decode_csr`", &[
-            row("above 4095", decode(ALL, 0x1300), "none").with(random().map(|a| decode(ALL, a | 0x1000)).take(100_000)),
-            row("above 4095", decode(ALL, u64::MAX), "none"),
-            row("odd pmpcfg", decode(ALL, 0x3A1), "none").with((0x3A1..=0x3AF).step_by(2).map(|a| decode(ALL, a))),
-            row("tdata1 to 3, mcontext, dcsr, dpc, dscratch0, 1", decode(ALL, 0x7A1), "none")
-                .with([0x7A1, 0x7A2, 0x7A3, 0x7A8, 0x7B0, 0x7B1, 0x7B2, 0x7B3].into_iter().map(|a| decode(ALL, a))),
-        ]);
-        table("`idx`", &[
-            row("pmpcfg above 15", Call::Pmpcfg(16), "7: the address is pmpaddr 0's"),
-            row("odd pmpcfg", Call::Pmpcfg(1), "7"),
-            row("pmpaddr above 63", Call::Pmpaddr(64), "7"),
-            row("mhpmcounter above 28", Call::Mhpmcounter(29), "7"),
-            row("mhpmevent above 28", Call::Mhpmevent(29), "7: the address is mscratch's"),
-            row("custom outside 0x7C0 to 0x7FF", Call::Custom(0x300), "7: the address is mstatus's"),
-            row("custom below the block", Call::Custom(0x7BF), "7"),
-            row("custom above the block", Call::Custom(0x800), "7"),
-            row("custom above 4095", Call::Custom(usize::MAX), "7"),
-            row("a payload that overflows", Call::Pmpaddr(usize::MAX), "7"),
-            row("a payload that overflows", Call::Pmpcfg(usize::MAX), "7"),
-            row("a payload that overflows", Call::Mhpmcounter(usize::MAX), "7"),
-            row("a payload that overflows", Call::Mhpmevent(usize::MAX), "7"),
-        ]);
-        table("The arithmetic", &[
-            row("`calculate_addr`, above 2^64", Call::Address { base: usize::MAX, imm: 1 }, "0x0"),
-            row("`calculate_addr`, below 0", Call::Address { base: 0, imm: -1 }, "0xFFFFFFFFFFFFFFFF"),
-            row("`calculate_addr`, the least immediate", Call::Address { base: 0, imm: isize::MIN }, "0x8000000000000000"),
-            row("the same, no borrow", Call::Address { base: 1 << 63, imm: isize::MIN }, "0x0"),
-            row("`bits_to_int`, 12 bits", Call::Bits { raw: 0x8005_2283, start: 20, end: 31 }, "-2048"),
-            row("`bits_to_int`, past the top", Call::Bits { raw: usize::MAX, start: 60, end: 71 }, "15"),
-            row("`bits_to_int`, from bit 64", Call::Bits { raw: usize::MAX, start: 64, end: 75 }, "0"),
-            row("`bits_to_int`, 64 bits", Call::Bits { raw: usize::MAX, start: 0, end: 63 }, "not ported"),
-            row("`bits_to_int`, end below start", Call::Bits { raw: usize::MAX, start: 3, end: 1 }, "not ported"),
-            row("`Width::from`, no such width", Call::Width(7), "no width"),
-            row("`Register::from`, above 31", Call::Register(0x12F), "register 15"),
-        ]);
+        table(
+            "`decode_csr`",
+            &[
+                row("above 4095", decode(ALL, 0x1300), "none").with(random().map(|a| decode(ALL, a | 0x1000)).take(100_000)),
+                row("above 4095", decode(ALL, u64::MAX), "none"),
+                row("odd pmpcfg", decode(ALL, 0x3A1), "none").with((0x3A1..=0x3AF).step_by(2).map(|a| decode(ALL, a))),
+                row("tdata1 to 3, mcontext, dcsr, dpc, dscratch0, 1", decode(ALL, 0x7A1), "none")
+                    .with([0x7A1, 0x7A2, 0x7A3, 0x7A8, 0x7B0, 0x7B1, 0x7B2, 0x7B3].into_iter().map(|a| decode(ALL, a))),
+            ],
+        );
+        table(
+            "`idx`",
+            &[
+                row("pmpcfg above 15", Call::Pmpcfg(16), "7: the address is pmpaddr 0's"),
+                row("odd pmpcfg", Call::Pmpcfg(1), "7"),
+                row("pmpaddr above 63", Call::Pmpaddr(64), "7"),
+                row("mhpmcounter above 28", Call::Mhpmcounter(29), "7"),
+                row("mhpmevent above 28", Call::Mhpmevent(29), "7: the address is mscratch's"),
+                row("custom outside 0x7C0 to 0x7FF", Call::Custom(0x300), "7: the address is mstatus's"),
+                row("custom below the block", Call::Custom(0x7BF), "7"),
+                row("custom above the block", Call::Custom(0x800), "7"),
+                row("custom above 4095", Call::Custom(usize::MAX), "7"),
+                row("a payload that overflows", Call::Pmpaddr(usize::MAX), "7"),
+                row("a payload that overflows", Call::Pmpcfg(usize::MAX), "7"),
+                row("a payload that overflows", Call::Mhpmcounter(usize::MAX), "7"),
+                row("a payload that overflows", Call::Mhpmevent(usize::MAX), "7"),
+            ],
+        );
+        table(
+            "The arithmetic",
+            &[
+                row("`calculate_addr`, above 2^64", Call::Address { base: usize::MAX, imm: 1 }, "0x0"),
+                row("`calculate_addr`, below 0", Call::Address { base: 0, imm: -1 }, "0xFFFFFFFFFFFFFFFF"),
+                row("`calculate_addr`, the least immediate", Call::Address { base: 0, imm: isize::MIN }, "0x8000000000000000"),
+                row("the same, no borrow", Call::Address { base: 1 << 63, imm: isize::MIN }, "0x0"),
+                row("`bits_to_int`, 12 bits", Call::Bits { raw: 0x8005_2283, start: 20, end: 31 }, "-2048"),
+                row("`bits_to_int`, past the top", Call::Bits { raw: usize::MAX, start: 60, end: 71 }, "15"),
+                row("`bits_to_int`, from bit 64", Call::Bits { raw: usize::MAX, start: 64, end: 75 }, "0"),
+                row("`bits_to_int`, 64 bits", Call::Bits { raw: usize::MAX, start: 0, end: 63 }, "not ported"),
+                row("`bits_to_int`, end below start", Call::Bits { raw: usize::MAX, start: 3, end: 1 }, "not ported"),
+                row("`Width::from`, no such width", Call::Width(7), "no width"),
+                row("`Register::from`, above 31", Call::Register(0x12F), "register 15"),
+            ],
+        );
         manual();
     }
 
@@ -384,7 +410,8 @@ mod run {
         println!("| CSRs | addresses | the Rust, all flags and the whole mask |\n|---|---|---|");
         oracle_checked::platform::set_custom(u64::MAX);
         for (name, at) in MANUAL {
-            let missing = at.clone().filter(|a| debug::call(Call::DecodeCsr { flags: ALL, address: *a }) == Did::Answer("none".into())).count();
+            let missing =
+                at.clone().filter(|a| debug::call(Call::DecodeCsr { flags: ALL, address: *a }) == Did::Answer("none".into())).count();
             let all = at.clone().count();
             let says = if missing == all { "none".to_string() } else { format!("{missing} of {all} none") };
             let (a, b) = (at.start(), at.end());

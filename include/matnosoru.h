@@ -1,0 +1,114 @@
+/*
+ * matnosoru: a proved RISC-V decoder, encoder and trap log. Link libmatnosoru.a (tools/native matnosoru TARGET).
+ *
+ * Every function is total: it has an answer for all arguments, keeps no state, allocates nothing and calls nothing back. A
+ * pointer may be any where its length is 0; else it must be good for that many bytes, and `out` must overlap no other argument.
+ *
+ * A profile is what a hart has, in two words. `flags`, from bit 0 up: zicntr, zihpm, tee, s, h, sstc, v, crypto; bits that mean
+ * nothing are ignored. `custom`: bit k makes the CSR address 0x7C0 + k available.
+ *
+ * An instruction crosses as one 64-bit word, its log record's bytes with the lowest first and zeros above (see
+ * MATNOSORU_KIND and the table below it).
+ *
+ * Where an answer may be a refusal, it is the refusal's number times 2^32 for one, and below 2^32 otherwise
+ * (MATNOSORU_REFUSAL).
+ */
+#ifndef MATNOSORU_H
+#define MATNOSORU_H
+
+#include <stddef.h>
+#include <stdint.h>
+
+#ifdef __cplusplus
+extern "C" {
+#endif
+
+/* The refusal's number in an answer that may be one; 0 where it is none. */
+#define MATNOSORU_REFUSAL(answer) ((uint64_t)(answer) >> 32)
+
+/*
+ * The kind of an instruction word, its lowest byte, and what the bytes above it are:
+ *   1, 2, 3  WFI, MRET, SRET
+ *   4        which fence (0 sfence.vma, 1 hfence.vvma, 2 hfence.gvma), rs1, rs2
+ *   5        operation (1 write, 2 set, 3 clear), CSR low byte, CSR high byte, rd, rs1
+ *   6        the same with an immediate in place of rs1
+ *   7        load: width in bytes, flags (1 compressed, 2 unsigned), rd, rs1, immediate in two bytes (two's complement, low first)
+ *   8        store: width in bytes, flags (1 compressed), rs1, rs2, immediate in two bytes
+ *   9        no instruction, the word is refused: reading (0 SYSTEM, 1 load, 2 store), number
+ */
+#define MATNOSORU_KIND(word) ((uint64_t)(word) & 0xFF)
+
+/* Refusals. */
+enum matnosoru_refusal {
+    MATNOSORU_UNKNOWN = 1,        /* SYSTEM reading: no such instruction */
+    MATNOSORU_INVALID_CSR_OP = 2, /* SYSTEM reading: the CSR is not available, or is read-only and written */
+    MATNOSORU_NOT_THE_FORM = 3,   /* load or store reading: not such a form */
+    MATNOSORU_WIDTH = 4,          /* load funct3 7, store funct3 4 to 7 */
+    MATNOSORU_STACK_FORM = 5,     /* load or store reading: low two bits 10 */
+    MATNOSORU_REGISTER = 6,       /* writing: a register or an immediate of a CSR form above 31 */
+    MATNOSORU_CSR = 7,            /* no address of its own, or the CSR is not available */
+    MATNOSORU_READ_ONLY = 8,      /* writing: the CSR operation writes a read-only CSR */
+    MATNOSORU_NO_FORM = 9,        /* writing: no form with this width, sign, compression and registers */
+    MATNOSORU_IMMEDIATE = 10,     /* writing: immediate outside the form's range or step */
+    MATNOSORU_RECORD_KIND = 11,   /* log: the kind byte is none of those listed */
+    MATNOSORU_CUT_SHORT = 12,     /* log: empty, or the body is cut short */
+    MATNOSORU_FIELD = 13,         /* log: a field that no writer would write under this profile */
+    MATNOSORU_OUTPUT_SHORT = 14,  /* the output buffer is shorter than what is to be written */
+    MATNOSORU_HART = 15           /* the hart is above 7 */
+};
+
+/* The SYSTEM reading of a raw word: its instruction word of kind 1 to 6, or the refusal 1 or 2 as a word of kind 9. */
+uint64_t matnosoru_read_system(uint64_t flags, uint64_t custom, uint64_t raw);
+
+/* The load reading: an instruction word of kind 7, or the refusal 3, 4 or 5 as a word of kind 9. */
+uint64_t matnosoru_read_load(uint64_t flags, uint64_t custom, uint64_t raw);
+
+/* The store reading: an instruction word of kind 8, or the refusal 3, 4 or 5 as a word of kind 9. */
+uint64_t matnosoru_read_store(uint64_t flags, uint64_t custom, uint64_t raw);
+
+/* The RISC-V word of an instruction word, or the refusal: 11 for a kind not 1 to 8, 13 for a code that no field has, then 6 to 10. */
+uint64_t matnosoru_write(uint64_t flags, uint64_t custom, uint64_t instruction_word);
+
+/* Whether the CSR at an address is available: 1 or 0. The address may be any number. */
+uint64_t matnosoru_csr(uint64_t flags, uint64_t custom, uint64_t address);
+
+/* How many CSRs are available. */
+uint64_t matnosoru_csr_count(uint64_t flags, uint64_t custom);
+
+/* Writes the log record of an instruction word to the start of `out`: the record's length, or the refusal (those of
+ * matnosoru_write, then 14), with `out` unchanged. */
+uint64_t matnosoru_write_instruction(uint64_t flags, uint64_t custom, uint64_t instruction_word, uint8_t *out, size_t out_len);
+
+/* Writes the log record of a refused word (kind 9): the record's length, or the refusal 13 for a pair of reading and number that
+ * no reading gives, then 14, with `out` unchanged. */
+uint64_t matnosoru_write_refusal(uint64_t reading, uint64_t number, uint64_t raw, uint8_t *out, size_t out_len);
+
+/* Writes the log record that sets a hart's profile (kind 0A): the record's length, or the refusal 15, then 14, with `out`
+ * unchanged. */
+uint64_t matnosoru_write_profile(uint64_t hart, uint64_t flags, uint64_t custom, uint8_t *out, size_t out_len);
+
+/* Checks the first record of a log under the current profile: the record's length, or the refusal 11, 12 or 13. What follows the
+ * record is not looked at. */
+uint64_t matnosoru_read_record(uint64_t flags, uint64_t custom, const uint8_t *log, size_t log_len);
+
+/* Writes the listing's line for the first record of `log`, which stands at place `at` of the whole log, to the start of `out`,
+ * its line feed included: the record's length plus 2^16 times the line's length; or the record's refusal, 14 last, with `out`
+ * unchanged. */
+uint64_t matnosoru_line(uint64_t flags, uint64_t custom, uint64_t at, const uint8_t *log, size_t log_len, uint8_t *out, size_t out_len);
+
+/* Compares two tables of eight profiles, each table 80 bytes: for each hart the flags in two bytes and the mask in eight, low
+ * byte first. The first hart and then the lowest CSR address where availability differs, as hart * 4096 + address; 32768 where
+ * there is none; the refusal 14 where a table is not 80 bytes. */
+uint64_t matnosoru_tables_differ(const uint8_t *a, size_t a_len, const uint8_t *b, size_t b_len);
+
+/* A value of `bytes` bytes (1, 2, 4 or 8) with its sign copied upwards; any other width leaves the value. */
+uint64_t matnosoru_sign_extend(uint64_t value, uint64_t bytes);
+
+/* The address of an access: base plus immediate, modulo 2^64. A negative immediate is in two's complement. */
+uint64_t matnosoru_calculate_addr(uint64_t base, uint64_t imm);
+
+#ifdef __cplusplus
+}
+#endif
+
+#endif

@@ -1,0 +1,135 @@
+//! What a hart has, and the readings and writings under it.
+
+use crate::{Csr, IllegalInst, Instr, LoadInstr, Refusal, StoreInstr, abi};
+
+/// What a hart has: the extension flags that Miralis keeps in `hw.extensions`, and the custom CSRs of its platform.
+#[derive(Clone, Copy, Debug, Default, PartialEq, Eq, Hash)]
+pub struct Profile {
+    /// Zicntr - Standard Extension for Base Counters and Timers
+    pub has_zicntr: bool,
+    /// Has Zihpm extension
+    pub has_zihpm_extension: bool,
+    /// Has Trusted Execution Environment Task Group
+    pub has_tee_extension: bool,
+    /// Supervisor extension
+    pub has_s_extension: bool,
+    /// Hypervisor extension
+    pub has_h_extension: bool,
+    /// If the sstc extension is enabled
+    pub is_sstc_enabled: bool,
+    /// Vector extension
+    pub has_v_extension: bool,
+    /// Crypto extension
+    pub has_crypto_extension: bool,
+    /// Bit k makes the CSR address 0x7C0 + k available
+    pub custom: u64,
+}
+
+/// What a reading answered: the instruction of the word, or the refusal of a word of kind 9.
+#[inline]
+fn read<T>(word: u64, from_word: impl FnOnce(u64) -> Option<T>) -> Result<T, Refusal> {
+    // The library's contract leaves nothing between the two, so a word that is neither does not come up. It would be Other(0).
+    from_word(word).ok_or(Refusal::from_number((word >> 16) & 0xFF))
+}
+
+impl Profile {
+    /// The profile with no flag and no custom CSR.
+    pub const EMPTY: Profile = Profile::from_flags(0, 0);
+
+    /// The profile with these flags, from bit 0 up in the order of the fields, and this mask. Bits that mean nothing are ignored.
+    pub const fn from_flags(flags: u64, custom: u64) -> Profile {
+        Profile {
+            has_zicntr: flags & 1 != 0,
+            has_zihpm_extension: flags & 1 << 1 != 0,
+            has_tee_extension: flags & 1 << 2 != 0,
+            has_s_extension: flags & 1 << 3 != 0,
+            has_h_extension: flags & 1 << 4 != 0,
+            is_sstc_enabled: flags & 1 << 5 != 0,
+            has_v_extension: flags & 1 << 6 != 0,
+            has_crypto_extension: flags & 1 << 7 != 0,
+            custom,
+        }
+    }
+
+    /// The flags, from bit 0 up in the order of the fields.
+    #[inline]
+    pub const fn flags(&self) -> u64 {
+        self.has_zicntr as u64
+            | (self.has_zihpm_extension as u64) << 1
+            | (self.has_tee_extension as u64) << 2
+            | (self.has_s_extension as u64) << 3
+            | (self.has_h_extension as u64) << 4
+            | (self.is_sstc_enabled as u64) << 5
+            | (self.has_v_extension as u64) << 6
+            | (self.has_crypto_extension as u64) << 7
+    }
+
+    /// Decodes a raw read RISC-V instruction. Refusals 3, 4 and 5.
+    #[inline]
+    pub fn decode_load(&self, raw: usize) -> Result<LoadInstr, Refusal> {
+        read(abi::read_load(self.flags(), self.custom, raw as u64), LoadInstr::from_word)
+    }
+
+    /// Decodes a raw write RISC-V instruction. Refusals 3, 4 and 5.
+    #[inline]
+    pub fn decode_store(&self, raw: usize) -> Result<StoreInstr, Refusal> {
+        read(abi::read_store(self.flags(), self.custom, raw as u64), StoreInstr::from_word)
+    }
+
+    /// Decodes a raw illegal instruction. Refusals 1 ([`Refusal::Unknown`]) and 2 ([`Refusal::InvalidCsrOp`]).
+    ///
+    /// Instructions that are not SYSTEM instructions (including all compressed instructions) are refused with 1.
+    #[inline]
+    pub fn decode_illegal_instruction(&self, raw_instr: usize) -> Result<IllegalInst, Refusal> {
+        read(abi::read_system(self.flags(), self.custom, raw_instr as u64), IllegalInst::from_word)
+    }
+
+    /// Decodes a CSR address, returns `None` if the CSR is not available.
+    #[inline]
+    pub fn decode_csr(&self, csr: usize) -> Option<Csr> {
+        match abi::csr(self.flags(), self.custom, csr as u64) {
+            0 => None,
+            _ => Csr::at(csr),
+        }
+    }
+
+    /// How many CSRs are available.
+    pub fn csr_count(&self) -> usize {
+        abi::csr_count(self.flags(), self.custom) as usize
+    }
+
+    /// The RISC-V word of an instruction: of 16 bits if it is compressed, else of 32. Refusals 6 to 10.
+    pub fn encode(&self, instr: impl Into<Instr>) -> Result<u32, Refusal> {
+        abi::answer(abi::write(self.flags(), self.custom, instr.into().to_word())).map(|word| word as u32)
+    }
+}
+
+/// Where two tables of profiles first differ.
+#[derive(Clone, Copy, Debug, PartialEq, Eq, Hash)]
+pub struct Difference {
+    /// The hart, 0 to 7
+    pub hart: usize,
+    /// The CSR address, 0 to 4095
+    pub address: usize,
+}
+
+/// The first hart, then the lowest CSR address, where two tables of profiles differ in what is available.
+pub fn first_difference(a: &[Profile; 8], b: &[Profile; 8]) -> Option<Difference> {
+    match abi::tables_differ(&table(a), &table(b)) {
+        place @ 0..32768 => Some(Difference { hart: (place >> 12) as usize, address: (place & 0xFFF) as usize }),
+        // 32768 is "none", and both tables have their 80 bytes
+        _ => None,
+    }
+}
+
+/// A table as it crosses: for each hart the flags in two bytes and the mask in eight, low byte first.
+fn table(profiles: &[Profile; 8]) -> [u8; 80] {
+    let mut bytes = [0; 80];
+    for (entry, profile) in bytes.chunks_exact_mut(10).zip(profiles) {
+        let flags = profile.flags().to_le_bytes().into_iter().take(2);
+        for (byte, value) in entry.iter_mut().zip(flags.chain(profile.custom.to_le_bytes())) {
+            *byte = value;
+        }
+    }
+    bytes
+}

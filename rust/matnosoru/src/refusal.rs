@@ -1,0 +1,113 @@
+//! The numbers that say no.
+
+use core::fmt;
+
+/// Why a call says no. Each has the number that stands in the log and in the library's answers.
+#[derive(Clone, Copy, Debug, PartialEq, Eq, Hash)]
+#[non_exhaustive]
+pub enum Refusal {
+    /// 1, SYSTEM reading: no such instruction. Miralis's `IllegalInst::Unknown`.
+    Unknown,
+    /// 2, SYSTEM reading: the CSR is not available, or is read-only and written. Miralis's `IllegalInst::InvalidCsrOp`.
+    InvalidCsrOp,
+    /// 3, load or store reading: not such a form.
+    NotTheForm,
+    /// 4, load or store reading: load funct3 7, store funct3 4 to 7.
+    ReservedWidth,
+    /// 5, load or store reading: low two bits 10, the compressed forms with the stack pointer among them.
+    StackForm,
+    /// 6, writing: a register or an immediate of a CSR form above 31.
+    RegisterRange,
+    /// 7: the CSR has no address of its own, or is not available.
+    NoSuchCsr,
+    /// 8, writing: the CSR operation writes a read-only CSR.
+    ReadOnlyCsr,
+    /// 9, writing: no form with this width, sign, compression and registers.
+    NoForm,
+    /// 10, writing: the immediate is outside the form's range or step.
+    ImmediateRange,
+    /// 11, log: the kind byte is none of those listed.
+    RecordKind,
+    /// 12, log: empty, or the body is cut short.
+    CutShort,
+    /// 13, log: a field that no writer would write under this profile.
+    RecordField,
+    /// 14: the output buffer is shorter than what is to be written.
+    OutputShort,
+    /// 15: the hart is above 7.
+    NoSuchHart,
+    /// A number that this crate has no name for, as a later library may give.
+    Other(u64),
+}
+
+impl Refusal {
+    /// The refusal's number.
+    pub const fn number(self) -> u64 {
+        match self {
+            Refusal::Unknown => 1,
+            Refusal::InvalidCsrOp => 2,
+            Refusal::NotTheForm => 3,
+            Refusal::ReservedWidth => 4,
+            Refusal::StackForm => 5,
+            Refusal::RegisterRange => 6,
+            Refusal::NoSuchCsr => 7,
+            Refusal::ReadOnlyCsr => 8,
+            Refusal::NoForm => 9,
+            Refusal::ImmediateRange => 10,
+            Refusal::RecordKind => 11,
+            Refusal::CutShort => 12,
+            Refusal::RecordField => 13,
+            Refusal::OutputShort => 14,
+            Refusal::NoSuchHart => 15,
+            Refusal::Other(number) => number,
+        }
+    }
+
+    /// The refusal with this number.
+    pub const fn from_number(number: u64) -> Refusal {
+        match number {
+            1 => Refusal::Unknown,
+            2 => Refusal::InvalidCsrOp,
+            3 => Refusal::NotTheForm,
+            4 => Refusal::ReservedWidth,
+            5 => Refusal::StackForm,
+            6 => Refusal::RegisterRange,
+            7 => Refusal::NoSuchCsr,
+            8 => Refusal::ReadOnlyCsr,
+            9 => Refusal::NoForm,
+            10 => Refusal::ImmediateRange,
+            11 => Refusal::RecordKind,
+            12 => Refusal::CutShort,
+            13 => Refusal::RecordField,
+            14 => Refusal::OutputShort,
+            15 => Refusal::NoSuchHart,
+            number => Refusal::Other(number),
+        }
+    }
+}
+
+impl fmt::Display for Refusal {
+    fn fmt(&self, f: &mut fmt::Formatter<'_>) -> fmt::Result {
+        let why = match self {
+            Refusal::Unknown => "no such SYSTEM instruction",
+            Refusal::InvalidCsrOp => "the CSR is not available, or is read-only and written",
+            Refusal::NotTheForm => "not a word of this reading",
+            Refusal::ReservedWidth => "a reserved width",
+            Refusal::StackForm => "a compressed word with low two bits 10",
+            Refusal::RegisterRange => "a register or immediate above 31",
+            Refusal::NoSuchCsr => "no such CSR, or not available",
+            Refusal::ReadOnlyCsr => "the CSR is read-only",
+            Refusal::NoForm => "no form with these operands",
+            Refusal::ImmediateRange => "the immediate is outside the form's range or step",
+            Refusal::RecordKind => "no such kind of record",
+            Refusal::CutShort => "the log is cut short",
+            Refusal::RecordField => "a field that no writer would write",
+            Refusal::OutputShort => "the output is too short",
+            Refusal::NoSuchHart => "no such hart",
+            Refusal::Other(_) => "refused",
+        };
+        write!(f, "{} ({why})", self.number())
+    }
+}
+
+impl core::error::Error for Refusal {}

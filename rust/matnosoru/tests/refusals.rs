@@ -1,0 +1,160 @@
+//! Each refusal, given by the call that gives it, and in document 01's order where two apply.
+
+use matnosoru::{Csr, IllegalInst::*, Instr, LoadInstr, Profile, Reading, Record, Refusal, Register, Register::*, StoreInstr, Width, abi};
+
+const EMPTY: Profile = Profile::EMPTY;
+
+fn load(rd: Register, rs1: Register, imm: isize, len: Width, is_compressed: bool, is_unsigned: bool) -> LoadInstr {
+    LoadInstr { rd, rs1, imm, len, is_compressed, is_unsigned }
+}
+
+fn store(rs2: Register, rs1: Register, imm: isize, len: Width, is_compressed: bool) -> StoreInstr {
+    StoreInstr { rs2, rs1, imm, len, is_compressed }
+}
+
+#[test]
+fn numbers() {
+    for number in 0..40 {
+        assert_eq!(Refusal::from_number(number).number(), number);
+    }
+    assert_eq!(Refusal::Unknown.number(), 1);
+    assert_eq!(Refusal::NoSuchHart.number(), 15);
+    assert_eq!(Refusal::ReadOnlyCsr.to_string(), "8 (the CSR is read-only)");
+}
+
+#[test]
+fn readings() {
+    // 1, 2
+    assert_eq!(EMPTY.decode_illegal_instruction(0x80052283), Err(Refusal::Unknown));
+    assert_eq!(EMPTY.decode_illegal_instruction(0xC0002573), Err(Refusal::InvalidCsrOp));
+    assert!(Profile::from_flags(1, 0).decode_illegal_instruction(0xC0002573).is_ok());
+    // 3: foreign words, the other reading's, compressed words of neither; before 4
+    for raw in [0xFEB13C23, 0x80052287, 0xFFFF_FFFF, 0xF14022F3, 0xC000, 0x0001, 0x8000, 0x2000, 0] {
+        assert_eq!(EMPTY.decode_load(raw), Err(Refusal::NotTheForm), "{raw:#x}");
+    }
+    for raw in [0x80052283, 0xFEB12C27, 0xFFFF_FFFF, 0x4000, 0x6000, 0x0001, 0x8000, 0x2000, 0] {
+        assert_eq!(EMPTY.decode_store(raw), Err(Refusal::NotTheForm), "{raw:#x}");
+    }
+    // 4
+    assert_eq!(EMPTY.decode_load(0x7003), Err(Refusal::ReservedWidth));
+    for funct3 in 4..8 {
+        assert_eq!(EMPTY.decode_store(funct3 << 12 | 0x23), Err(Refusal::ReservedWidth));
+    }
+    // 5: low two bits 10, whatever else
+    for raw in [0x4502, 0xC502, 0xFFFF_FFFE, 2] {
+        assert_eq!(EMPTY.decode_load(raw), Err(Refusal::StackForm), "{raw:#x}");
+        assert_eq!(EMPTY.decode_store(raw), Err(Refusal::StackForm), "{raw:#x}");
+    }
+}
+
+#[test]
+fn writings() {
+    let (rd, rs1) = (X5, X6);
+    // 6, before 7
+    assert_eq!(EMPTY.encode(Csrrwi { csr: Csr::Mstatus, rd, uimm: 32 }), Err(Refusal::RegisterRange));
+    assert_eq!(EMPTY.encode(Csrrwi { csr: Csr::Mstatus, rd, uimm: 256 }), Err(Refusal::RegisterRange));
+    assert_eq!(EMPTY.encode(Csrrwi { csr: Csr::Mstatus, rd, uimm: usize::MAX }), Err(Refusal::RegisterRange));
+    assert_eq!(EMPTY.encode(Csrrwi { csr: Csr::Custom(0x300), rd, uimm: 32 }), Err(Refusal::RegisterRange));
+    // 7: no address of its own, or not available; before 8
+    for csr in [
+        Csr::Custom(0x300),
+        Csr::Custom(0x7BF),
+        Csr::Custom(0x800),
+        Csr::Custom(usize::MAX),
+        Csr::Pmpcfg(1),
+        Csr::Pmpcfg(16),
+        Csr::Pmpcfg(usize::MAX),
+        Csr::Pmpaddr(64),
+        Csr::Pmpaddr(usize::MAX),
+        Csr::Mhpmcounter(29),
+        Csr::Mhpmcounter(usize::MAX),
+        Csr::Mhpmevent(29),
+        Csr::Mhpmevent(usize::MAX),
+    ] {
+        assert_eq!(csr.idx(), Err(Refusal::NoSuchCsr), "{csr:?}");
+        assert_eq!(Profile::from_flags(!0, !0).encode(Csrrw { csr, rd, rs1 }), Err(Refusal::NoSuchCsr), "{csr:?}");
+    }
+    for csr in [Csr::Tdata1, Csr::Dcsr, Csr::Dscratch1] {
+        assert!(csr.idx().is_ok());
+        assert_eq!(Profile::from_flags(!0, !0).encode(Csrrw { csr, rd, rs1 }), Err(Refusal::NoSuchCsr), "{csr:?}");
+    }
+    assert_eq!(EMPTY.encode(Csrrw { csr: Csr::Cycle, rd, rs1 }), Err(Refusal::NoSuchCsr));
+    // 8
+    assert_eq!(EMPTY.encode(Csrrw { csr: Csr::Mhartid, rd, rs1: X0 }), Err(Refusal::ReadOnlyCsr));
+    assert_eq!(EMPTY.encode(Csrrs { csr: Csr::Mhartid, rd, rs1 }), Err(Refusal::ReadOnlyCsr));
+    assert_eq!(EMPTY.encode(Csrrci { csr: Csr::Mhartid, rd, uimm: 1 }), Err(Refusal::ReadOnlyCsr));
+    assert_eq!(EMPTY.encode(Csrrs { csr: Csr::Mhartid, rd, rs1: X0 }), Ok(0xF14022F3));
+    // 9, before 10
+    for instr in [
+        Instr::Load(load(X5, X10, 0, Width::Byte8, false, true)),
+        Instr::Load(load(X8, X8, 0, Width::Byte, true, false)),
+        Instr::Load(load(X8, X8, 0, Width::Byte4, true, true)),
+        Instr::Load(load(X7, X8, 0, Width::Byte4, true, false)),
+        Instr::Load(load(X8, X16, 1, Width::Byte8, true, false)),
+        Instr::Load(load(X5, X10, isize::MIN, Width::Byte8, false, true)),
+        Instr::Store(store(X8, X8, 0, Width::Byte2, true)),
+        Instr::Store(store(X8, X2, isize::MAX, Width::Byte4, true)),
+    ] {
+        assert_eq!(EMPTY.encode(instr), Err(Refusal::NoForm), "{instr:?}");
+    }
+    // 10
+    for imm in [-2049, 2048, 1 << 15, 1 << 16, -(1 << 16), 1 << 32, 1 << 60, isize::MIN, isize::MAX] {
+        assert_eq!(EMPTY.encode(load(X5, X10, imm, Width::Byte, false, false)), Err(Refusal::ImmediateRange), "{imm}");
+        assert_eq!(EMPTY.encode(store(X5, X10, imm, Width::Byte, false)), Err(Refusal::ImmediateRange), "{imm}");
+        assert_eq!(EMPTY.encode(load(X8, X10, imm, Width::Byte8, true, false)), Err(Refusal::ImmediateRange), "{imm}");
+    }
+    for imm in [-4, 2, 4 + 1, 128] {
+        assert_eq!(EMPTY.encode(load(X8, X8, imm, Width::Byte4, true, false)), Err(Refusal::ImmediateRange), "{imm}");
+    }
+    for imm in [-8, 4, 256] {
+        assert_eq!(EMPTY.encode(store(X8, X8, imm, Width::Byte8, true)), Err(Refusal::ImmediateRange), "{imm}");
+    }
+}
+
+/// Words that no typed instruction has: the kind, a code, and a register above 31.
+#[test]
+fn words() {
+    let write = |word| abi::answer(abi::write(0, 0, word));
+    for kind in [0, 9, 10, 0x21, 0xFF] {
+        assert_eq!(write(kind), Err(Refusal::RecordKind), "{kind}");
+    }
+    // fence 3, operation 0 and 4, width 3 and 0, flags 4; a CSR field above 4095
+    for word in [0x0304, 0x0005, 0x0405, 0x0306 | 0x1000_0000, 0x0307, 0x0007, 0x04_0107, 0x02_0108] {
+        assert_eq!(write(word), Err(Refusal::RecordField), "{word:#x}");
+    }
+    // rs1 32 of a fence, rd 32 of a CSR form, rs1 32 of a load
+    for word in [0x20_0004, 0x20_0300_0105, 0x20_0000_0107] {
+        assert_eq!(write(word), Err(Refusal::RegisterRange), "{word:#x}");
+    }
+    assert_eq!(write(1), Ok(0x10500073));
+}
+
+#[test]
+fn logs() {
+    assert_eq!(EMPTY.read_record(&[]), Err(Refusal::CutShort));
+    for kind in [0, 0x0B, 0x21, 0xFF] {
+        assert_eq!(EMPTY.read_record(&[kind; 12]), Err(Refusal::RecordKind), "{kind}");
+    }
+    assert_eq!(EMPTY.read_record(&[0x0A; 10]), Err(Refusal::CutShort));
+    assert_eq!(EMPTY.read_record(&[0x0A; 11]), Err(Refusal::RecordField));
+    // cycle needs zicntr
+    let cycle = [5, 2, 0x00, 0x0C, 5, 0];
+    assert_eq!(EMPTY.read_record(&cycle), Err(Refusal::RecordField));
+    assert!(Profile::from_flags(1, 0).read_record(&cycle).is_ok());
+    // pairs that no reading gives
+    for (reading, number) in [(Reading::System, 3), (Reading::Load, 2), (Reading::Store, 6), (Reading::System, 0), (Reading::Load, 1 << 40)]
+    {
+        let record = Record::Refused { reading, refusal: Refusal::from_number(number), raw: 0 };
+        assert_eq!(EMPTY.write_record(&record, &mut [0; 16]), Err(Refusal::RecordField), "{record:?}");
+        assert_eq!(EMPTY.write_record(&record, &mut []), Err(Refusal::RecordField), "14 comes last");
+    }
+    for hart in [8, 256, usize::MAX] {
+        let record = Record::Profile { hart, profile: EMPTY };
+        assert_eq!(EMPTY.write_record(&record, &mut [0; 16]), Err(Refusal::NoSuchHart));
+        assert_eq!(EMPTY.write_record(&record, &mut []), Err(Refusal::NoSuchHart), "14 comes last");
+    }
+    let read_only = Record::Instr(Csrrw { csr: Csr::Mhartid, rd: X0, rs1: X0 }.into());
+    let mut out = [0xEE; 16];
+    assert_eq!(EMPTY.write_record(&read_only, &mut out), Err(Refusal::ReadOnlyCsr));
+    assert_eq!(out, [0xEE; 16], "a refusal leaves the buffer");
+}
