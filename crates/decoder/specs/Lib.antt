@@ -3,3 +3,5 @@ pub mod Funct3
 pub mod Load
 pub mod Store
 pub mod System
+pub mod Grounds
+pub mod Words01

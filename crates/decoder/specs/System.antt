@@ -2,7 +2,7 @@
 -- 01's "Reading a SYSTEM word".
 use mathlib.Core.Bool.{Bool, true, false, _&&_, _||_, not, cond}
 use mathlib.Core.List.{List, [], _∷_}
-use Prim.Native.Nat.{ℕ, _+_, _*_, _/_, _%_, _^_}
+use Prim.Native.Nat.{ℕ, _+_, _*_, _^_}
 use lib.Dec.{eqb, ltb}
 use lib.ListN.{getD}
 use Rattle.utils.specs.Field.{fld}
@@ -45,6 +45,16 @@ abbrev pub opCode : CsrOp → ℕ
 opCode Write = 1
 opCode Set = 2
 opCode Clear = 3
+
+-- bits 14:12 of a CSR form; the third chooses immediate
+abbrev pub funct3 : CsrOp → Bool → ℕ
+funct3 o m = opCode o + 4 * bitOf m
+
+-- bits 31:25 of a fence
+abbrev pub funct7 : Fence → ℕ
+funct7 Vma = 0b0001001
+funct7 Vvma = 0b0010001
+funct7 Gvma = 0b0110001
 
 -- the log's codes of the fences
 abbrev pub fenceCode : Fence → ℕ
@@ -96,9 +106,13 @@ operandsOf (access o m a d x) = operands (lineOf (access o m a d x)) d x 0 a
 abbrev pub speech : Speech Shape
 speech = record { make = λ env. getD (shapes env) (env funct) wfi; ops = operandsOf; code = λ s. Is 0; is-short = λ s. false; why = λ w. 1; why-not = λ s. 6 }
 
--- WFI, MRET, SRET and the fences are whole words; CSR forms ignore bits above 31
+-- CSR forms ignore bits above 31
+unfoldable pub accessAt : ℕ → Kind Shape
+accessAt w = readOf accesses speech w
+
+-- and WFI, MRET, SRET and the fences are whole words
 unfoldable pub shapeAt : ℕ → Kind Shape
-shapeAt w = cond (ltb w (2 ^ 32)) (readOf system speech w) (readOf accesses speech w)
+shapeAt w = cond (ltb w (2 ^ 32)) (readOf system speech w) (accessAt w)
 
 -- ---- which accesses write, and which registers may not be written
 -- write always writes; set and clear write when the rs1 field is not 0

@@ -110,10 +110,13 @@ apart-both : (L M : Layout) → apart L M ≡ true
     → (clash (ofWord L) (ofWord M) ≡ true) × (any (λ x. clash (ofPieces (pieces L x)) (ofPieces (pieces M x))) others ≡ true)
 apart-both L M = both (clash (ofWord L) (ofWord M)) (any (λ x. clash (ofPieces (pieces L x)) (ofPieces (pieces M x))) others)
 
-readable-once : (w : ℕ) (L M : Layout) → readable w L ≡ true → apart M L ≡ true → readable w M ≡ true → ⊥
-readable-once w L M r a q =
+pub word-once : (w : ℕ) (L M : Layout) → readable w L ≡ true → clash (ofWord M) (ofWord L) ≡ true → readable w M ≡ true → ⊥
+word-once w L M r a q =
     let h : (N : Layout) → readable w N ≡ true → Has w (ofWord N) = λ N e. word-has w N (both (matches N w) (spares N (read N w)) e .0) in
-    clash-not w (ofWord M) (ofWord L) (h M q) (h L r) (apart-both M L a .0)
+    clash-not w (ofWord M) (ofWord L) (h M q) (h L r) a
+
+readable-once : (w : ℕ) (L M : Layout) → readable w L ≡ true → apart M L ≡ true → readable w M ≡ true → ⊥
+readable-once w L M r a q = word-once w L M r (apart-both M L a .0) q
 
 chosen-once : (env : Operand → ℕ) (L M : Layout) → chosen env L ≡ true → apart M L ≡ true → chosen env M ≡ true → ⊥
 chosen-once env L M r a q =
