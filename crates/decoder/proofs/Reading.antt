@@ -3,8 +3,8 @@ use mathlib.Core.Path.{_≡_, refl, sym, ap, _∙_, subst}
 use mathlib.Core.Bool.{Bool, true, _&&_, cond}
 use mathlib.Core.List.{List, [], _∷_}
 use mathlib.Core.Logic.{_⊎_, ⊎-elim}
-use Prim.Native.Nat.{ℕ, suc, _+_, _-_, _/_, _%_, _^_, _<_}
-use native.Mathlib.Nat.{mod-eq-of-lt, div-one, lt-of-lt-of-le}
+use Prim.Native.Nat.{ℕ, suc, _+_, _/_, _%_, _^_, _<_}
+use native.Mathlib.Nat.{mod-eq-of-lt, lt-of-lt-of-le}
 use native.Mathlib.Omega.{arith}
 use borrow.Author.Tests.{eq-eqb, ne-eqb, le-leb, leb-true}
 use lib.Bits.{bitAnd, and-mask}
@@ -21,7 +21,7 @@ use Rattle.utils.proofs.Digits.{fld-lt}
 use Rattle.utils.proofs.Signed.{signed-low}
 use Rattle.utils.specs.declared.Width.{Width}
 use Rattle.registers.specs.declared.Register.{Register}
-use Rattle.forms.specs.Layout.{Layout, Operand, imm, pieces, size, read, readable, good}
+use Rattle.forms.specs.Layout.{Layout, imm, pieces, size, read, readable, good}
 use Rattle.forms.specs.Table.{Kind, form, none, first, distinct}
 use Rattle.forms.specs.Speech.{Speech, readAs, readOf}
 use Rattle.forms.proofs.Laws.{read-lt}

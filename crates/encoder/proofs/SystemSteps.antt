@@ -1,0 +1,144 @@
+-- What each exit of the SYSTEM writing's functions knows is what the definition asks there. Assumes nothing.
+use mathlib.Core.Path.{_≡_, refl, sym, ap, subst, _∙_}
+use mathlib.Core.Bool.{Bool, true, false, _&&_, cond}
+use Prim.Native.Nat.{ℕ, _-_, _*_, _%_, _^_, _≤_, _<_}
+use native.Mathlib.Nat.{mod-eq-of-lt}
+use native.Mathlib.Omega.{arith}
+use borrow.Author.Tests.{le-leb, lt-leb, lt-ltb, leb-true}
+use lib.Bits.{bitAnd, bitOr, and-mask}
+use lib.Dec.{leb, ltb}
+use Rattle.registers.specs.declared.Csr.{Csr}
+use Rattle.registers.specs.declared.Idx.{Idx}
+use Rattle.registers.specs.declared.Idx.the-variants.{At, Refused as Nowhere}
+use Rattle.registers.specs.declared.Register.{Register}
+use Rattle.registers.specs.Address.{idxDef}
+use Rattle.profiles.specs.declared.CsrLookup.{CsrLookup}
+use Rattle.profiles.specs.declared.CsrLookup.the-variants.{Found, Missing}
+use Rattle.profiles.specs.declared.Profile.{Profile}
+use Rattle.profiles.specs.Gates.{decodeCsrDef}
+use Rattle.profiles.proofs.Laws.{found-lt}
+use Rattle.forms.specs.declared.Wrote.the-variants.{Word}
+use Rattle.forms.specs.Layout.{imm, width, holds, chosen, good, build}
+use Rattle.forms.specs.Speech.{writeOf, put}
+use Rattle.forms.proofs.Tests.{join}
+use Rattle.forms.proofs.Table.{row, Inside, row-writes}
+use Rattle.forms.proofs.Shifts.{orBuild, put-together}
+use Rattle.utils.specs.declared.Code.the-variants.{Is, Out}
+use Rattle.decoder.specs.declared.CsrOp.{CsrOp}
+use Rattle.decoder.specs.declared.CsrOp.the-variants.{Write, Set, Clear}
+use Rattle.decoder.specs.declared.Fence.{Fence}
+use Rattle.decoder.specs.declared.Fence.the-variants.{Vma, Vvma, Gvma}
+use Rattle.decoder.specs.Forms.{system}
+use Rattle.decoder.specs.System.{Shape, fence, access, operandsOf, funct3, funct7, always, barredDef, speech}
+use Rattle.encoder.specs.System.{below32, lookedUp, addressed, addressFor}
+
+-- ---- 6: z is the refusal
+pub first-6 : {X : Type 0} (a b : ℕ) (k z : X) → 31 < a → z ≡ below32 a b k z
+first-6 a b k z h = rw (lt-leb a 31 h)
+
+pub second-6 : {X : Type 0} (a b : ℕ) (k z : X) → a ≤ 31 → 31 < b → z ≡ below32 a b k z
+second-6 a b k z g h = rw (le-leb a 31 g, lt-leb b 31 h)
+
+pub past-6 : {X : Type 0} (a b : ℕ) (k z : X) → a ≤ 31 → b ≤ 31 → k ≡ below32 a b k z
+past-6 a b k z g h = rw (le-leb a 31 g, le-leb b 31 h)
+
+-- ---- 7 and 8: i is what `idx` gave, k what the look-up gave, b what `is_barred` gave
+module _ (p : Profile) (o : CsrOp) (c : Csr) (x : ℕ) {i : Idx} (q : i ≡ idxDef c) where
+  abbrev Answer : Idx → Type 0
+  Answer r = r ≡ addressed p (idxDef c) o x
+
+  pub no-address : (n : ℕ) → i ≡ Nowhere n → Answer (Nowhere 7)
+  no-address n e = ap (λ (y : Idx). addressed p y o x) (sym e ∙ q)
+
+  module _ (a : ℕ) (e : i ≡ At a) {k : CsrLookup} (l : k ≡ decodeCsrDef p a) where
+    looked : lookedUp k o a x ≡ addressed p (idxDef c) o x
+    looked = ap (λ (y : CsrLookup). lookedUp y o a x) l ∙ ap (λ (y : Idx). addressed p y o x) (sym e ∙ q)
+
+    pub unavailable : k ≡ Missing → Answer (Nowhere 7)
+    unavailable f = ap (λ (y : CsrLookup). lookedUp y o a x) (sym f) ∙ looked
+
+    module _ (f : Csr) (u : k ≡ Found f) {t : Bool} (w : t ≡ always o) {b : Bool} (v : b ≡ barredDef a t x) where
+      asked : cond b (Nowhere 8) (At a) ≡ addressed p (idxDef c) o x
+      asked = ap (λ (y : Bool). cond y (Nowhere 8) (At a)) (v ∙ ap (λ (y : Bool). barredDef a y x) w) ∙ ap (λ (y : CsrLookup). lookedUp y o a x) (sym u) ∙ looked
+
+      pub barred : b ≡ true → Answer (Nowhere 8)
+      barred y = ap (λ (z : Bool). cond z (Nowhere 8) (At a)) (sym y) ∙ asked
+
+      pub free : b ≡ false → Answer (At a)
+      free y = ap (λ (z : Bool). cond z (Nowhere 8) (At a)) (sym y) ∙ asked
+
+-- an access that can be written has registers below 32, and an address of twelve bits that is its register's
+pub record Placed (p : Profile) (c : Csr) (d x a : ℕ) : Type 0 where
+  pub rd : d ≤ 31
+  pub src : x ≤ 31
+  pub csr : idxDef c ≡ At a
+  pub small : a < 2 ^ 12
+
+no-at : {X : Type 0} {n a : ℕ} → Nowhere n ≡ At a → X
+no-at e = absurd (let z : _≡_ {A = ℕ} 0 1 = cc in omega arith)
+
+unbarred : (t : Bool) (b a : ℕ) → cond t (Nowhere 8) (At b) ≡ At a → b ≡ a
+unbarred true b a e = no-at e
+unbarred false b a e = cc
+
+pub address-at : (p : Profile) (o : CsrOp) (c : Csr) (d : Register) (x a : ℕ) → addressFor p o c d x ≡ At a → Placed p c (d .0) x a
+address-at p o c d x a = go (leb (d .0) 31) refl (leb x 31) refl (idxDef c) refl
+  where
+    look : (b : ℕ) → d .0 ≤ 31 → x ≤ 31 → idxDef c ≡ At b → (k : CsrLookup) → decodeCsrDef p b ≡ k → lookedUp k o b x ≡ At a → Placed p c (d .0) x a
+    look b g h e (Found f) q r =
+        let z = unbarred (barredDef b (always o) x) b a r in
+        record { rd = g; src = h; csr = e ∙ ap At z; small = subst (λ (n : ℕ). n < 2 ^ 12) z (found-lt p b f q) }
+    look b g h e Missing q r = no-at r
+
+    go : (s : Bool) → leb (d .0) 31 ≡ s → (t : Bool) → leb x 31 ≡ t → (i : Idx) → idxDef c ≡ i → cond (s && t) (addressed p i o x) (Nowhere 6) ≡ At a → Placed p c (d .0) x a
+    go true q true r (At b) e f = look b (leb-true (d .0) 31 q) (leb-true x 31 r) e (decodeCsrDef p b) refl f
+    go true q true r (Nowhere n) e f = no-at f
+    go true q false r i e f = no-at f
+    go false q t r i e f = no-at f
+
+-- ---- the words
+-- a shape that fits line k of the table is written by it
+by-line : (k : ℕ) → Inside system k → (s : Shape) → chosen (operandsOf s) (row system k) ≡ true → holds (row system k) imm 0 ≡ true → good (row system k) ≡ true → leb (width (row system k)) 64 ≡ true
+    → {r : ℕ} → r ≡ orBuild (row system k) (operandsOf s) → Word r ≡ writeOf system speech s
+by-line k h s c i g l e =
+    ap Word (e ∙ put-together (row system k) g l (operandsOf s)) ∙ ap (λ (b : Bool). put (cond b (Is 0) Out) (build (row system k) (operandsOf s))) (sym i)
+    ∙ sym (row-writes system speech k h refl s c)
+
+-- the code does not mask what it has tested
+unmasked : (n x : ℕ) → x < 2 ^ n → x ≡ bitAnd x (2 ^ n - 1)
+unmasked n x h = sym (and-mask x n ∙ mod-eq-of-lt h)
+
+-- (a << 20) | (x << 15) | f | (d << 7) | 0x73
+abbrev pub accessWord : ℕ → ℕ → ℕ → ℕ → ℕ
+accessWord a x f d = bitOr (bitOr (bitOr (bitOr ((a * 2 ^ 20) % 2 ^ 64) ((x * 2 ^ 15) % 2 ^ 64)) f) ((d * 2 ^ 7) % 2 ^ 64)) 0x73
+
+module _ (a d x : ℕ) (la : a < 2 ^ 12) (ld : d ≤ 31) (lx : x ≤ 31) where
+  fits : ltb a (2 ^ 12) && true && true && ltb x (2 ^ 5) && ltb d (2 ^ 5) && true ≡ true
+  fits = join (join (join (join (join (lt-ltb a (2 ^ 12) la) refl) refl) (lt-ltb x (2 ^ 5) (omega arith))) (lt-ltb d (2 ^ 5) (omega arith))) refl
+
+  masks : (f : ℕ) → accessWord a x f d ≡ accessWord (bitAnd a 4095) (bitAnd x 31) f (bitAnd d 31)
+  masks f = λ j. accessWord (unmasked 12 a la j) (unmasked 5 x (omega arith) j) f (unmasked 5 d (omega arith) j)
+
+  pub access-word : (o : CsrOp) (m : Bool) → Word (accessWord a x (funct3 o m * 2 ^ 12) d) ≡ writeOf system speech (access o m a d x)
+  access-word Write false = by-line 6 tt (access Write false a d x) fits refl refl refl (masks 0x1000)
+  access-word Set false = by-line 7 tt (access Set false a d x) fits refl refl refl (masks 0x2000)
+  access-word Clear false = by-line 8 tt (access Clear false a d x) fits refl refl refl (masks 0x3000)
+  access-word Write true = by-line 9 tt (access Write true a d x) fits refl refl refl (masks 0x5000)
+  access-word Set true = by-line 10 tt (access Set true a d x) fits refl refl refl (masks 0x6000)
+  access-word Clear true = by-line 11 tt (access Clear true a d x) fits refl refl refl (masks 0x7000)
+
+-- f | (b << 20) | (a << 15) | 0x73
+abbrev pub fenceWord : ℕ → ℕ → ℕ → ℕ
+fenceWord f a b = bitOr (bitOr (bitOr f ((b * 2 ^ 20) % 2 ^ 64)) ((a * 2 ^ 15) % 2 ^ 64)) 0x73
+
+module _ (a b : ℕ) (la : a ≤ 31) (lb : b ≤ 31) where
+  fence-fits : ltb b (2 ^ 5) && ltb a (2 ^ 5) && true && true ≡ true
+  fence-fits = join (join (join (lt-ltb b (2 ^ 5) (omega arith)) (lt-ltb a (2 ^ 5) (omega arith))) refl) refl
+
+  fence-masks : (f : ℕ) → fenceWord f a b ≡ fenceWord f (bitAnd a 31) (bitAnd b 31)
+  fence-masks f = λ j. fenceWord f (unmasked 5 a (omega arith) j) (unmasked 5 b (omega arith) j)
+
+  pub fence-word : (f : Fence) → Word (fenceWord (funct7 f * 2 ^ 25) a b) ≡ writeOf system speech (fence f a b)
+  fence-word Vma = by-line 3 tt (fence Vma a b) fence-fits refl refl refl (fence-masks (funct7 Vma * 2 ^ 25))
+  fence-word Vvma = by-line 4 tt (fence Vvma a b) fence-fits refl refl refl (fence-masks (funct7 Vvma * 2 ^ 25))
+  fence-word Gvma = by-line 5 tt (fence Gvma a b) fence-fits refl refl refl (fence-masks (funct7 Gvma * 2 ^ 25))

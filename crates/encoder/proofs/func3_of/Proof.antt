@@ -1,0 +1,15 @@
+-- `encoder::func3_of` meets its contract: bit 2 is the sign, below it is the width. Assumes nothing.
+use native.Mathlib.Omega.{arith}
+use borrow.Author.Needs.{needs}
+use Rattle.encoder.proofs.Funct3.{size-lt}
+use Rattle.encoder.proofs.func3_of.Statement.{statement}
+use Rattle.encoder.proofs.func3_of.Tie as tie
+
+pub func3-of-spec : {M : Type 1} → statement M
+func3-of-spec =
+    tie.close
+    (tie.spec
+    (λ c κs. search needs)
+    (λ c. omega (arith, size-lt (c .before .before .args .len)))
+    (λ c. simp (c .if1 .taken) (omega arith))
+    (λ c. simp (c .if1 .left) (omega arith)))

@@ -1,0 +1,2 @@
+pub mod LoadStore
+pub mod System
