@@ -46,11 +46,11 @@ opCode Write = 1
 opCode Set = 2
 opCode Clear = 3
 
--- bits 14:12 of a CSR form; the third chooses immediate
+-- bits 14:12 of a CSR form, as the six lines of the table have them; the third chooses immediate
 abbrev pub funct3 : CsrOp → Bool → ℕ
 funct3 o m = opCode o + 4 * bitOf m
 
--- bits 31:25 of a fence
+-- bits 31:25 of a fence, as the three lines of the table have them
 abbrev pub funct7 : Fence → ℕ
 funct7 Vma = 0b0001001
 funct7 Vvma = 0b0010001

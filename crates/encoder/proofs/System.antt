@@ -47,48 +47,12 @@ use Rattle.encoder.specs.System.{lookedUp, addressed, placed, accessFor,
 system-sound : sound system ≡ true
 system-sound = refl
 
--- a line's operands make a shape that has these operands
+-- a line's operands make a shape that has these operands: each field of `lines` is `refl`
 faithful : Faithful system speech
 faithful = record { lines = lines; code-ops = code-ops; make-ops = λ s _ _. make-ops s }
   where
     lines : Every (λ L. (w : ℕ) → Says speech L w) system
-    lines = (
-      λ w. record { ops = refl; code = refl; room = refl },
-      (
-        λ w. record { ops = refl; code = refl; room = refl },
-        (
-          λ w. record { ops = refl; code = refl; room = refl },
-          (
-            λ w. record { ops = refl; code = refl; room = refl },
-            (
-              λ w. record { ops = refl; code = refl; room = refl },
-              (
-                λ w. record { ops = refl; code = refl; room = refl },
-                (
-                  λ w. record { ops = refl; code = refl; room = refl },
-                  (
-                    λ w. record { ops = refl; code = refl; room = refl },
-                    (
-                      λ w. record { ops = refl; code = refl; room = refl },
-                      (
-                        λ w. record { ops = refl; code = refl; room = refl },
-                        (
-                          λ w. record { ops = refl; code = refl; room = refl },
-                          (
-                            λ w. record { ops = refl; code = refl; room = refl },
-                            tt,
-                          ),
-                        ),
-                      ),
-                    ),
-                  ),
-                ),
-              ),
-            ),
-          ),
-        ),
-      ),
-    )
+    lines = search depth 20
 
     code-ops : (s : Shape) (n : ℕ) → Is 0 ≡ Is n → n ≡ operandsOf s imm
     code-ops wfi n e = cc
@@ -112,7 +76,7 @@ faithful = record { lines = lines; code-ops = code-ops; make-ops = λ s _ _. mak
     make-ops (access Clear true a d x) = refl
 
 -- ---- what is read has registers below 32
-abbrev Small : Shape → Type 0
+abbrev pub Small : Shape → Type 0
 Small wfi = Unit {0}
 Small mret = Unit {0}
 Small sret = Unit {0}
@@ -137,7 +101,7 @@ shapes-small env d a b =
 five : Layout → Operand → Bool
 five L x = leb (size L x) 5
 
-read-small : (w : ℕ) (s : Shape) → readOf system speech w ≡ form s → Small s
+pub read-small : (w : ℕ) (s : Shape) → readOf system speech w ≡ form s → Small s
 unfolding five
 read-small w s = go (first (readable w) system 1) refl
   where
@@ -154,16 +118,16 @@ read-small w s = go (first (readable w) system 1) refl
 
 -- ---- what a profile makes of a shape, and back
 -- a CSR form that is read is not barred, and its register is found at its address
-record Legal (p : Profile) (o : CsrOp) (m : Bool) (a d x : ℕ) (i : IllegalInst) : Type 0 where
-  csr : Csr
-  free : barredDef a (always o) x ≡ false
-  at : decodeCsrDef p a ≡ Found csr
-  is : instOf o m csr d x ≡ i
+pub record Legal (p : Profile) (o : CsrOp) (m : Bool) (a d x : ℕ) (i : IllegalInst) : Type 0 where
+  pub csr : Csr
+  pub free : barredDef a (always o) x ≡ false
+  pub at : decodeCsrDef p a ≡ Found csr
+  pub is : instOf o m csr d x ≡ i
 
 invalid-no : {X : Type 0} {i : IllegalInst} → InvalidCsrOp ≡ Inst i → X
 invalid-no e = absurd (let z : _≡_ {A = ℕ} 0 1 = cc in omega arith)
 
-legal : (p : Profile) (o : CsrOp) (m : Bool) (a d x : ℕ) (i : IllegalInst) → instAt p (access o m a d x) ≡ Inst i → Legal p o m a d x i
+pub legal : (p : Profile) (o : CsrOp) (m : Bool) (a d x : ℕ) (i : IllegalInst) → instAt p (access o m a d x) ≡ Inst i → Legal p o m a d x i
 legal p o m a d x i = go (barredDef a (always o) x) refl (decodeCsrDef p a) refl
   where
     go : (b : Bool) → barredDef a (always o) x ≡ b → (k : CsrLookup) → decodeCsrDef p a ≡ k → cond b InvalidCsrOp (foundDef k o m d x) ≡ Inst i → Legal p o m a d x i
@@ -171,12 +135,12 @@ legal p o m a d x i = go (barredDef a (always o) x) refl (decodeCsrDef p a) refl
     go false q (Found c) r e = record { csr = c; free = q; at = r; is = (cc) }
     go false q Missing r e = invalid-no e
 
-for-fence : (p : Profile) (f : Fence) (a b : ℕ) → shapeFor p (fenceOf f a b) ≡ fenceFor f (reg a) (reg b)
+pub for-fence : (p : Profile) (f : Fence) (a b : ℕ) → shapeFor p (fenceOf f a b) ≡ fenceFor f (reg a) (reg b)
 for-fence p Vma a b = refl
 for-fence p Vvma a b = refl
 for-fence p Gvma a b = refl
 
-for-access : (p : Profile) (o : CsrOp) (m : Bool) (c : Csr) (d x : ℕ) → shapeFor p (instOf o m c d x) ≡ accessFor p o m c (reg d) x
+pub for-access : (p : Profile) (o : CsrOp) (m : Bool) (c : Csr) (d x : ℕ) → shapeFor p (instOf o m c d x) ≡ accessFor p o m c (reg d) x
 for-access p Write false c d x = refl
 for-access p Set false c d x = refl
 for-access p Clear false c d x = refl
@@ -184,7 +148,7 @@ for-access p Write true c d x = refl
 for-access p Set true c d x = refl
 for-access p Clear true c d x = refl
 
-inst-back : (p : Profile) (s : Shape) (i : IllegalInst) → Small s → instAt p s ≡ Inst i → shapeFor p i ≡ form s
+pub inst-back : (p : Profile) (s : Shape) (i : IllegalInst) → Small s → instAt p s ≡ Inst i → shapeFor p i ≡ form s
 inst-back p wfi i l e = let z : Wfi ≡ i = cc in ap (shapeFor p) (sym z)
 inst-back p mret i l e = let z : Mret ≡ i = cc in ap (shapeFor p) (sym z)
 inst-back p sret i l e = let z : Sret ≡ i = cc in ap (shapeFor p) (sym z)
@@ -238,7 +202,7 @@ module _ (p : Profile) where
   reads (Hfencevvma a b) = fence-reads Vvma a b
   reads (Hfencegvma a b) = fence-reads Gvma a b
 
-  inst-forth : (i : IllegalInst) (s : Shape) → shapeFor p i ≡ form s → instAt p s ≡ Inst i
+  pub inst-forth : (i : IllegalInst) (s : Shape) → shapeFor p i ≡ form s → instAt p s ≡ Inst i
   inst-forth i s e = subst (Reads i) e (reads i)
 
 -- ---- the demand
