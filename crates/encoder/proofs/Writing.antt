@@ -113,12 +113,13 @@ module _ (f x b : ℕ) (z : ℤ) where
     no-short Byte4 e = simp (popular, e, le-leb x 31 l, le-leb b 31 m)
     no-short Byte8 e = simp (popular, e, le-leb x 31 l, le-leb b 31 m)
 
-    -- no compressed load is unsigned
-    pub no-unsigned : (len : Width) → Refused 9 ≡ writeOf loads Load.speech (Load.mk x b z len true true)
-    no-unsigned Byte = simp (le-leb x 31 l, le-leb b 31 m)
-    no-unsigned Byte2 = simp (le-leb x 31 l, le-leb b 31 m)
-    no-unsigned Byte4 = simp (le-leb x 31 l, le-leb b 31 m)
-    no-unsigned Byte8 = simp (le-leb x 31 l, le-leb b 31 m)
+module _ (x b : ℕ) (z : ℤ) where
+  -- no compressed load is unsigned
+  pub no-unsigned : x ≤ 31 → b ≤ 31 → (len : Width) → Refused 9 ≡ writeOf loads Load.speech (Load.mk x b z len true true)
+  no-unsigned l m Byte = simp (le-leb x 31 l, le-leb b 31 m)
+  no-unsigned l m Byte2 = simp (le-leb x 31 l, le-leb b 31 m)
+  no-unsigned l m Byte4 = simp (le-leb x 31 l, le-leb b 31 m)
+  no-unsigned l m Byte8 = simp (le-leb x 31 l, le-leb b 31 m)
 
   -- what funct3 6 and 7 write are the compressed stores; the two tables test the registers in another order
   module _ (len : Width) (L M : Layout) (s l : ℕ) (g : (n : ℕ) → holds L imm n ≡ (eqb (n % s) 0 && ltb n l)) (h : (n : ℕ) → holds M imm n ≡ (eqb (n % s) 0 && ltb n l)) where

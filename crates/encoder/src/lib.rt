@@ -49,7 +49,7 @@ pub fn encode_load(ctx: Profile, load: LoadInstr) -> Wrote
         }
         return encode_compressed(0b010, rd, rs1, imm, len);
     }
-    let func3 = func3_of(len, load.is_unsigned);
+    let func3 = load_func3(len, load.is_unsigned);
     // There is no unsigned load of 64 bits
     if func3 == 0b111 {
         return Wrote::Refused(9);
@@ -293,7 +293,7 @@ fn store_word(rs2: usize, rs1: usize, func3: usize, imm: usize) -> u64
 }
 
 // funct3 of a load's width and sign.
-fn func3_of(len: Width, is_unsigned: bool) -> usize
+fn load_func3(len: Width, is_unsigned: bool) -> usize
     ensures { λ r. ⌜ r ≡ funct3Of len «is_unsigned» ⌝ }
 {
     let size = size_of(len);

@@ -1,5 +1,5 @@
 -- `encoder::encode_compressed` meets its contract: the registers and the width choose the line, and the immediate is tested by the line. Assumes nothing.
-use mathlib.Core.Path.{refl, ap}
+use mathlib.Core.Path.{refl}
 use Prim.Native.Nat.{_/_, _<_}
 use mathlib.Core.List.{[], _∷_}
 use mathlib.Core.Logic.{⊎-elim}
@@ -49,7 +49,7 @@ encode-compressed-spec =
     let o = c .before .before .before .before in
     let s = o .before .before .before .before .before in
     word-arm (s .args .func3) (s .args .reg) (s .args .base) (s .args .imm) (s .fits .imm) (o .before .before .before .before .if1 .left) (o .before .before .before .if2 .left) (c .before .before .code .given .1)
-    (o .before .enum-told .given .1) (o .offset .ensures) (ap Word (c .compressed-word .ensures)))
+    (o .before .enum-told .given .1) (o .offset .ensures) (λ j. Word (c .compressed-word .ensures j)))
     (λ c.
     let o = c .before .before in
     let s = o .before .before .before .before .before in
@@ -59,7 +59,7 @@ encode-compressed-spec =
     let o = c .before .before .before .before in
     let s = o .before .before .before .before .before in
     double-arm (s .args .func3) (s .args .reg) (s .args .base) (s .args .imm) (s .fits .imm) (o .before .before .before .before .if1 .left) (o .before .before .before .if2 .left) (c .before .before .code2 .given .1)
-    (o .before .enum-told3 .given .1) (o .offset2 .ensures) (ap Word (c .compressed-double .ensures)))
+    (o .before .enum-told3 .given .1) (o .offset2 .ensures) (λ j. Word (c .compressed-double .ensures j)))
     (λ c.
     let o = c .before .before in
     let s = o .before .before .before .before .before in

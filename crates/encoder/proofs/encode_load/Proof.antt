@@ -28,6 +28,12 @@ use Rattle.encoder.proofs.Writing.{and-false, high, putCode, put-long, 
 use Rattle.encoder.proofs.encode_load.Statement.{statement}
 use Rattle.encoder.proofs.encode_load.Tie as tie
 
+-- a compressed load
+by-short : (i : LoadInstr) → SFits w64 (i .imm) → i .«is_compressed» ≡ true → i .«is_unsigned» ≡ false → {r : Wrote}
+    → r ≡ writeOf (shorts 0b010) speech (mk (i .rd .0) (i .rs1 .0) (toZ w64 (ofZ w64 (i .imm))) (i .len) true false) → r ≡ writeOf loads speech i
+by-short i fits c u e =
+    e ∙ ap (λ (z : ℤ). writeOf (shorts 0b010) speech (mk (i .rd .0) (i .rs1 .0) z (i .len) true false)) (toZ-ofZ w64 (i .imm) fits) ∙ ap (writeOf loads speech) (loaded i c u)
+
 -- a load of 32 bits; f is its funct3
 module _ (i : LoadInstr) (f : ℕ) (e : f ≡ funct3Of (i .len) (i .«is_unsigned»)) (long : i .«is_compressed» ≡ false) (l : i .rd .0 ≤ 31) (m : i .rs1 .0 ≤ 31) where
   low : funct3Of (i .len) (i .«is_unsigned») % 2 ^ 3 ≡ f
@@ -63,26 +69,24 @@ encode-load-spec =
     (λ c. let h = high _ (c .if2 .taken) in simp (h .long, h .short, h .why, and-false))
     (λ c.
     let i = c .before .before .before .before .before .args .load in
-    no-unsigned 0 (i .rd .0) (i .rs1 .0) (i .imm) (c .before .before .before .if1 .left) (c .before .before .if2 .left) (i .len) ∙ ap (writeOf loads speech) (loaded i (c .before .if3 .taken) (c .if4 .taken)))
+    no-unsigned (i .rd .0) (i .rs1 .0) (i .imm) (c .before .before .before .if1 .left) (c .before .before .if2 .left) (i .len) ∙ ap (writeOf loads speech) (loaded i (c .before .if3 .taken) (c .if4 .taken)))
     (λ c κs. search needs)
     (λ c.
     let i = c .before .before .before .before .before .before .args .load in
-    c .encode-compressed .ensures
-    ∙ ap (λ (z : ℤ). writeOf (shorts 0b010) speech (mk (i .rd .0) (i .rs1 .0) z (i .len) true false)) (toZ-ofZ w64 (i .imm) (record { sfits = c .before .before .before .before .before .struct-told .given .1 .1 .0 .1 }))
-    ∙ ap (writeOf loads speech) (loaded i (c .before .before .if3 .taken) (c .before .if4 .left)))
+    by-short i (record { sfits = c .before .before .before .before .before .struct-told .given .1 .1 .0 .1 }) (c .before .before .if3 .taken) (c .before .if4 .left) (c .encode-compressed .ensures))
     (λ c κs. search needs)
     (λ c.
     let i = c .before .before .before .before .before .before .args .load in
-    unsigned-double i _ (c .before .func3-of .ensures) (c .before .before .if3 .left) (c .before .before .before .before .if1 .left) (c .before .before .before .if2 .left) (c .if5 .taken))
+    unsigned-double i _ (c .before .load-func3 .ensures) (c .before .before .if3 .left) (c .before .before .before .before .if1 .left) (c .before .before .before .if2 .left) (c .if5 .taken))
     (λ c κs. search needs)
     (λ c. search needs)
     (λ c κs. search needs)
     (λ c. search needs)
     (λ c.
     let g = c .before .before .before .before .before .before in
-    by-code (g .before .before .before .before .before .args .load) _ (g .func3-of .ensures) (g .before .if3 .left) (g .before .before .before .if1 .left) (g .before .before .if2 .left) (record { sfits = g .before .before .before .before .struct-told .given .1 .1 .0 .1 })
-    (c .before .before .before .before .before .if5 .left) (c .before .before .before .before .code-of .ensures) (c .before .before .code .given .1) (ap Word (c .load-word .ensures)))
+    by-code (g .before .before .before .before .before .args .load) _ (g .load-func3 .ensures) (g .before .if3 .left) (g .before .before .before .if1 .left) (g .before .before .if2 .left) (record { sfits = g .before .before .before .before .struct-told .given .1 .1 .0 .1 })
+    (c .before .before .before .before .before .if5 .left) (c .before .before .before .before .code-of .ensures) (c .before .before .code .given .1) (λ j. Word (c .load-word .ensures j)))
     (λ c.
     let g = c .before .before .before .before in
-    by-code (g .before .before .before .before .before .args .load) _ (g .func3-of .ensures) (g .before .if3 .left) (g .before .before .before .if1 .left) (g .before .before .if2 .left) (record { sfits = g .before .before .before .before .struct-told .given .1 .1 .0 .1 })
+    by-code (g .before .before .before .before .before .args .load) _ (g .load-func3 .ensures) (g .before .if3 .left) (g .before .before .before .if1 .left) (g .before .before .if2 .left) (record { sfits = g .before .before .before .before .struct-told .given .1 .1 .0 .1 })
     (c .before .before .before .if5 .left) (c .before .before .code-of .ensures) (c .enum-told .given .1) refl))

@@ -28,6 +28,13 @@ use Rattle.encoder.proofs.Writing.{and-false, high, putCode, put-long, 
 use Rattle.encoder.proofs.encode_store.Statement.{statement}
 use Rattle.encoder.proofs.encode_store.Tie as tie
 
+-- a compressed store
+by-short : (i : StoreInstr) → SFits w64 (i .imm) → i .«is_compressed» ≡ true → {r : Wrote}
+    → r ≡ writeOf (shorts 0b110) Load.speech (Load.mk (i .rs2 .0) (i .rs1 .0) (toZ w64 (ofZ w64 (i .imm))) (i .len) true false) → r ≡ writeOf stores speech i
+by-short i fits c e =
+    e ∙ ap (λ (z : ℤ). writeOf (shorts 0b110) Load.speech (Load.mk (i .rs2 .0) (i .rs1 .0) z (i .len) true false)) (toZ-ofZ w64 (i .imm) fits)
+    ∙ short-store (i .rs2 .0) (i .rs1 .0) (i .imm) (i .len) ∙ ap (writeOf stores speech) (stored i c)
+
 -- a store of 32 bits; f is its funct3
 module _ (i : StoreInstr) (f : ℕ) (e : f ≡ sizeOf (i .len)) (long : i .«is_compressed» ≡ false) (l : i .rs2 .0 ≤ 31) (m : i .rs1 .0 ≤ 31) where
   the-line : writeAs speech i (form store) ≡ writeOf stores speech i
@@ -52,9 +59,7 @@ encode-store-spec =
     (λ c κs. search needs)
     (λ c.
     let i = c .before .before .before .before .before .args .store in
-    c .encode-compressed .ensures
-    ∙ ap (λ (z : ℤ). writeOf (shorts 0b110) Load.speech (Load.mk (i .rs2 .0) (i .rs1 .0) z (i .len) true false)) (toZ-ofZ w64 (i .imm) (record { sfits = c .before .before .before .before .struct-told .given .1 .1 .0 .1 }))
-    ∙ short-store 0 (i .rs2 .0) (i .rs1 .0) (i .imm) (i .len) ∙ ap (writeOf stores speech) (stored i (c .before .if3 .taken)))
+    by-short i (record { sfits = c .before .before .before .before .struct-told .given .1 .1 .0 .1 }) (c .before .if3 .taken) (c .encode-compressed .ensures))
     (λ c κs. search needs)
     (λ c κs. search needs)
     (λ c. search needs)
@@ -63,7 +68,7 @@ encode-store-spec =
     (λ c.
     let g = c .before .before .before .before .before in
     by-code (g .before .before .before .before .before .args .store) _ (g .size-of .ensures) (g .before .if3 .left) (g .before .before .before .if1 .left) (g .before .before .if2 .left) (record { sfits = g .before .before .before .before .struct-told .given .1 .1 .0 .1 })
-    (c .before .before .before .before .code-of .ensures) (c .before .before .code .given .1) (ap Word (c .store-word .ensures)))
+    (c .before .before .before .before .code-of .ensures) (c .before .before .code .given .1) (λ j. Word (c .store-word .ensures j)))
     (λ c.
     let g = c .before .before .before in
     by-code (g .before .before .before .before .before .args .store) _ (g .size-of .ensures) (g .before .if3 .left) (g .before .before .before .if1 .left) (g .before .before .if2 .left) (record { sfits = g .before .before .before .before .struct-told .given .1 .1 .0 .1 })

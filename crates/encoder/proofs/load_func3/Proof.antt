@@ -1,12 +1,12 @@
--- `encoder::func3_of` meets its contract: bit 2 is the sign, below it is the width. Assumes nothing.
+-- `encoder::load_func3` meets its contract: bit 2 is the sign, below it is the width. Assumes nothing.
 use native.Mathlib.Omega.{arith}
 use borrow.Author.Needs.{needs}
 use Rattle.encoder.proofs.Funct3.{size-lt}
-use Rattle.encoder.proofs.func3_of.Statement.{statement}
-use Rattle.encoder.proofs.func3_of.Tie as tie
+use Rattle.encoder.proofs.load_func3.Statement.{statement}
+use Rattle.encoder.proofs.load_func3.Tie as tie
 
-pub func3-of-spec : {M : Type 1} → statement M
-func3-of-spec =
+pub load-func3-spec : {M : Type 1} → statement M
+load-func3-spec =
     tie.close
     (tie.spec
     (λ c κs. search needs)
