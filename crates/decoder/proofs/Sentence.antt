@@ -57,6 +57,8 @@ module _ (p : Profile) (w : ℕ) (f : CsrForm w) where
   unfolding illegalDef
   is = ap (readShape p) (past-wholes w (λ _. unfit-csr w (f .1)) ∙ at-access w (six .0) (six .1) (f .0) (six .2))
 
+  -- a word in CSR form is refused as InvalidCsrOp exactly when its address names no register available under the profile, or it would write a
+  -- read-only one
   pub sentence : Invalid p w ↔ Grounds p w
   unfolding available
   sentence = (

@@ -26,9 +26,6 @@ use registers::Register;
 use utils::Code;
 use utils::Width;
 
-// Half of the codes of a 12-bit immediate: it is -2048 to 2047.
-const HALF: u32 = 2048;
-
 // A load as a word, or the refusal's number: 6, 9 and 10 are tested in this order.
 pub fn encode_load(ctx: Profile, load: LoadInstr) -> Wrote
     ensures { λ r. ⌜ r ≡ encodeLoadDef ctx load ⌝ }
@@ -60,6 +57,30 @@ pub fn encode_load(ctx: Profile, load: LoadInstr) -> Wrote
     }
 }
 
+// A store as a word, or the refusal's number, tested in the same order.
+pub fn encode_store(ctx: Profile, store: StoreInstr) -> Wrote
+    ensures { λ r. ⌜ r ≡ encodeStoreDef ctx store ⌝ }
+{
+    let rs2 = store.rs2.0;
+    let rs1 = store.rs1.0;
+    let imm = store.imm;
+    let len = store.len;
+    if 31 < rs2 {
+        return Wrote::Refused(6);
+    }
+    if 31 < rs1 {
+        return Wrote::Refused(6);
+    }
+    if store.is_compressed {
+        return encode_compressed(0b110, rs2, rs1, imm, len);
+    }
+    let func3 = size_of(len);
+    match utils::code_of(imm, HALF) {
+        Code::Is(code) => Wrote::Word(store_word(rs2, rs1, func3, code)),
+        Code::Out => Wrote::Refused(10),
+    }
+}
+
 // The word of a privileged instruction under a profile.
 pub fn encode_illegal_instruction(ctx: Profile, inst: IllegalInst) -> Wrote
     ensures { λ r. ⌜ r ≡ encodeIllegalDef ctx inst ⌝ }
@@ -79,6 +100,9 @@ pub fn encode_illegal_instruction(ctx: Profile, inst: IllegalInst) -> Wrote
         IllegalInst::Hfencegvma { rs1, rs2 } => encode_fence(Fence::Gvma, rs1, rs2),
     }
 }
+
+// Half of the codes of a 12-bit immediate: it is -2048 to 2047.
+const HALF: u32 = 2048;
 
 // A CSR form; `src` is the number of rs1, or uimm.
 fn encode_csr(ctx: Profile, op: CsrOp, imm: bool, csr: Csr, rd: Register, src: usize) -> Wrote
@@ -167,30 +191,6 @@ fn fence_func7(fence: Fence) -> usize
         Fence::Vma => decoder::SFENCE_INSTR_VMA_MASK,
         Fence::Vvma => decoder::HFENCE_INSTR_VVMA_MASK,
         Fence::Gvma => decoder::HFENCE_INSTR_GVMA_MASK,
-    }
-}
-
-// A store as a word, or the refusal's number, tested in the same order.
-pub fn encode_store(ctx: Profile, store: StoreInstr) -> Wrote
-    ensures { λ r. ⌜ r ≡ encodeStoreDef ctx store ⌝ }
-{
-    let rs2 = store.rs2.0;
-    let rs1 = store.rs1.0;
-    let imm = store.imm;
-    let len = store.len;
-    if 31 < rs2 {
-        return Wrote::Refused(6);
-    }
-    if 31 < rs1 {
-        return Wrote::Refused(6);
-    }
-    if store.is_compressed {
-        return encode_compressed(0b110, rs2, rs1, imm, len);
-    }
-    let func3 = size_of(len);
-    match utils::code_of(imm, HALF) {
-        Code::Is(code) => Wrote::Word(store_word(rs2, rs1, func3, code)),
-        Code::Out => Wrote::Refused(10),
     }
 }
 
