@@ -1,0 +1,130 @@
+//! The decoders that can be run, each behind the same calls.
+
+use crate::Profile;
+
+/// A decoder under one profile. A load or store reading may panic.
+pub trait Side {
+    const NAME: &'static str;
+
+    fn new(profile: Profile) -> Self;
+    fn system(&self, raw: u64) -> u64;
+    fn load(&self, raw: u64) -> u64;
+    fn store(&self, raw: u64) -> u64;
+
+    /// The register at an address, as its type prints it, and its address back from the register.
+    fn decode_csr(&self, address: u64) -> Option<(String, u64)>;
+
+    fn sign_extend(value: u64, bytes: u64) -> u64;
+    fn calculate_addr(base: u64, imm: i64) -> u64;
+
+    /// One of the three readings.
+    #[inline(always)]
+    fn read(&self, reading: crate::Reading, raw: u64) -> u64 {
+        match reading {
+            crate::Reading::System => self.system(raw),
+            crate::Reading::Load => self.load(raw),
+            crate::Reading::Store => self.store(raw),
+        }
+    }
+}
+
+/// The calls on one build of Miralis's modules. Each build is a crate with types of its own, so the code is written out for each.
+#[cfg(have_miralis)]
+macro_rules! side {
+    ($(#[$doc:meta])* $side:ident, $name:literal, $module:ident, $build:ident) => {
+        $(#[$doc])*
+        pub struct $side($build::host::MiralisContext);
+
+        mod $module {
+            use $build::arch::{Csr, Width};
+            use $build::calls;
+            use $build::decoder::IllegalInst::*;
+            use $build::host::MiralisContext;
+            use crate::sides::Side;
+            use crate::{Profile, Reading};
+
+            impl Side for super::$side {
+                const NAME: &'static str = $name;
+
+                fn new(profile: Profile) -> Self {
+                    // the platform has one mask for each thread
+                    $build::platform::set_custom(profile.custom);
+                    super::$side(MiralisContext::with_flags(profile.flags))
+                }
+
+                #[inline]
+                fn system(&self, raw: u64) -> u64 {
+                    let fence = |code, rs1, rs2| u64::from_le_bytes([4, code, rs1, rs2, 0, 0, 0, 0]);
+                    let access = |kind, op, csr: Csr, rd, from| {
+                        let address = csr.idx();
+                        // the address tells which register it is only where the look-up agrees
+                        if self.0.decode_csr(address) != Some(csr) {
+                            return u64::MAX;
+                        }
+                        let [low, high, ..] = address.to_le_bytes();
+                        u64::from_le_bytes([kind, op, low, high, rd, from, 0, 0])
+                    };
+                    match calls::system(&self.0, raw as usize) {
+                        Wfi => 1,
+                        Mret => 2,
+                        Sret => 3,
+                        Sfencevma { rs1, rs2 } => fence(0, rs1 as u8, rs2 as u8),
+                        Hfencevvma { rs1, rs2 } => fence(1, rs1 as u8, rs2 as u8),
+                        Hfencegvma { rs1, rs2 } => fence(2, rs1 as u8, rs2 as u8),
+                        Csrrw { csr, rd, rs1 } => access(5, 1, csr, rd as u8, rs1 as u8),
+                        Csrrs { csr, rd, rs1 } => access(5, 2, csr, rd as u8, rs1 as u8),
+                        Csrrc { csr, rd, rs1 } => access(5, 3, csr, rd as u8, rs1 as u8),
+                        Csrrwi { csr, rd, uimm } => access(6, 1, csr, rd as u8, uimm as u8),
+                        Csrrsi { csr, rd, uimm } => access(6, 2, csr, rd as u8, uimm as u8),
+                        Csrrci { csr, rd, uimm } => access(6, 3, csr, rd as u8, uimm as u8),
+                        Unknown => Reading::System.refused(1),
+                        InvalidCsrOp => Reading::System.refused(2),
+                    }
+                }
+
+                #[inline]
+                fn load(&self, raw: u64) -> u64 {
+                    let l = calls::load(&self.0, raw as usize);
+                    let [low, high, ..] = l.imm.to_le_bytes();
+                    let flags = l.is_compressed as u8 | (l.is_unsigned as u8) << 1;
+                    u64::from_le_bytes([7, l.len.to_bytes() as u8, flags, l.rd as u8, l.rs1 as u8, low, high, 0])
+                }
+
+                #[inline]
+                fn store(&self, raw: u64) -> u64 {
+                    let s = calls::store(&self.0, raw as usize);
+                    let [low, high, ..] = s.imm.to_le_bytes();
+                    u64::from_le_bytes([8, s.len.to_bytes() as u8, s.is_compressed as u8, s.rs1 as u8, s.rs2 as u8, low, high, 0])
+                }
+
+                fn decode_csr(&self, address: u64) -> Option<(String, u64)> {
+                    calls::decode_csr(&self.0, address as usize).map(|csr| (format!("{csr:?}"), calls::idx(csr) as u64))
+                }
+
+                fn sign_extend(value: u64, bytes: u64) -> u64 {
+                    calls::sign_extend(value as usize, Width::from(bytes as usize * 8)) as u64
+                }
+
+                fn calculate_addr(base: u64, imm: i64) -> u64 {
+                    calls::calculate_addr(base as usize, imm as isize) as u64
+                }
+            }
+        }
+    };
+}
+
+#[cfg(have_miralis)]
+side! {
+    /// Miralis's own text, built as a release build of it is.
+    Original, "the Rust", original, oracle
+}
+#[cfg(have_miralis)]
+side! {
+    /// Miralis's own text, built as a debug build of it is.
+    Checked, "the Rust with overflow checks", checked, oracle_checked
+}
+#[cfg(all(have_miralis, feature = "proved"))]
+side! {
+    /// rust/miralis/decoder.rs in its place.
+    StandIn, "miralis/decoder.rs", stand_in, monitor
+}
