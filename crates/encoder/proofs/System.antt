@@ -92,7 +92,7 @@ getD-each P [] n d h p = p
 getD-each P (x ∷ xs) zero d h p = h .0
 getD-each P (x ∷ xs) (suc n) d h p = getD-each P xs n d (h .1) p
 
-shapes-small : (env : Operand → ℕ) → env rd ≤ 31 → env rs1 ≤ 31 → env rs2 ≤ 31 → Small (speech .make env)
+pub shapes-small : (env : Operand → ℕ) → env rd ≤ 31 → env rs1 ≤ 31 → env rs2 ≤ 31 → Small (speech .make env)
 shapes-small env d a b =
     let f : (env rs1 ≤ 31) × (env rs2 ≤ 31) = (a, b) in
     let x : (env rd ≤ 31) × (env rs1 ≤ 31) = (d, a) in

@@ -14,6 +14,18 @@ pub const fn contains(reading: Reading, raw: u64) -> bool {
     }
 }
 
+/// The number that document 01 wants for a word outside the domain.
+#[inline]
+pub const fn wanted(reading: Reading, raw: u64) -> u8 {
+    let opcode = if matches!(reading, Reading::Load) { 0x03 } else { 0x23 };
+    match raw & 3 {
+        2 => 5,
+        // the form, of a reserved width
+        _ if raw & 0x7F == opcode => 4,
+        _ => 3,
+    }
+}
+
 /// A class of words outside the domain.
 pub struct Class {
     pub reading: Reading,
@@ -101,6 +113,9 @@ mod tests {
         }
         for class in CLASSES {
             assert!(class.has(class.example), "{}", class.name);
+            for raw in (0..0x1_0000).filter(|raw| class.has(*raw)) {
+                assert_eq!(wanted(class.reading, raw), class.wanted, "{} {raw:#x}", class.name);
+            }
         }
     }
 }

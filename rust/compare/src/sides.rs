@@ -128,3 +128,70 @@ side! {
     /// rust/miralis/decoder.rs in its place.
     StandIn, "miralis/decoder.rs", stand_in, monitor
 }
+
+/// The proved library, by its exported functions.
+#[cfg(feature = "proved")]
+pub struct Library(Profile);
+
+#[cfg(feature = "proved")]
+impl Library {
+    /// The RISC-V word of an instruction word, or a number from 2^32 up.
+    #[inline]
+    pub fn write(&self, instruction: u64) -> u64 {
+        matnosoru::abi::write(self.0.flags, self.0.custom, instruction)
+    }
+
+    pub fn csr_count(&self) -> u64 {
+        matnosoru::abi::csr_count(self.0.flags, self.0.custom)
+    }
+
+    /// The length of the first record of a log, or a number from 2^32 up.
+    #[inline]
+    pub fn read_record(&self, log: &[u8]) -> u64 {
+        matnosoru::abi::read_record(self.0.flags, self.0.custom, log)
+    }
+}
+
+#[cfg(feature = "proved")]
+impl Side for Library {
+    const NAME: &'static str = "the library";
+
+    fn new(profile: Profile) -> Self {
+        Library(profile)
+    }
+
+    #[inline]
+    fn system(&self, raw: u64) -> u64 {
+        matnosoru::abi::read_system(self.0.flags, self.0.custom, raw)
+    }
+
+    #[inline]
+    fn load(&self, raw: u64) -> u64 {
+        matnosoru::abi::read_load(self.0.flags, self.0.custom, raw)
+    }
+
+    #[inline]
+    fn store(&self, raw: u64) -> u64 {
+        matnosoru::abi::read_store(self.0.flags, self.0.custom, raw)
+    }
+
+    fn decode_csr(&self, address: u64) -> Option<(String, u64)> {
+        match matnosoru::abi::csr(self.0.flags, self.0.custom, address) {
+            0 => None,
+            // a number that is no answer is told from any register
+            1 => Some(match matnosoru::Csr::at(address as usize) {
+                Some(csr) => (format!("{csr:?}"), csr.idx().map_or(u64::MAX, |a| a as u64)),
+                None => ("available, and no register".into(), address),
+            }),
+            other => Some((format!("the answer {other}"), address)),
+        }
+    }
+
+    fn sign_extend(value: u64, bytes: u64) -> u64 {
+        matnosoru::abi::sign_extend(value, bytes)
+    }
+
+    fn calculate_addr(base: u64, imm: i64) -> u64 {
+        matnosoru::abi::calculate_addr(base, imm as u64)
+    }
+}

@@ -37,80 +37,11 @@ pub mod logger {
     pub(crate) use dropped as debug;
 }
 
-/// In place of src/platform/mod.rs.
 #[cfg(have_miralis)]
-pub mod platform {
-    use std::cell::Cell;
+pub mod platform;
 
-    thread_local! {
-        static CUSTOM: Cell<u64> = const { Cell::new(0) };
-    }
-
-    /// Sets this thread's mask of custom CSRs: bit k is for address 0x7C0 + k.
-    pub fn set_custom(mask: u64) {
-        CUSTOM.set(mask);
-    }
-
-    /// What the decoder asks of a platform.
-    pub trait Platform {
-        fn is_valid_custom_csr(csr: usize) -> bool;
-    }
-
-    /// The platform whose custom CSRs are those of the mask.
-    pub struct Plat;
-
-    impl Platform for Plat {
-        fn is_valid_custom_csr(csr: usize) -> bool {
-            match csr.checked_sub(0x7C0) {
-                Some(k) if k < 64 => (CUSTOM.get() >> k) & 1 == 1,
-                _ => false,
-            }
-        }
-    }
-}
-
-/// In place of src/host.rs.
 #[cfg(have_miralis)]
-pub mod host {
-    use crate::arch::ExtensionsCapability;
-
-    /// What the decoder looks at of `HardwareCapability`.
-    pub struct HardwareCapability {
-        pub extensions: ExtensionsCapability,
-    }
-
-    /// What the decoder looks at of the host's context.
-    pub struct MiralisContext {
-        pub hw: HardwareCapability,
-    }
-
-    impl MiralisContext {
-        /// A context with document 01's flags: from bit 0 up zicntr, zihpm, tee, s, h, sstc, v, crypto. The flags of the
-        /// Rust's record that no reading looks at are off.
-        pub fn with_flags(flags: u64) -> Self {
-            let on = |bit: u32| (flags >> bit) & 1 == 1;
-            MiralisContext {
-                hw: HardwareCapability {
-                    extensions: ExtensionsCapability {
-                        has_zicntr: on(0),
-                        has_zihpm_extension: on(1),
-                        has_tee_extension: on(2),
-                        has_s_extension: on(3),
-                        has_h_extension: on(4),
-                        is_sstc_enabled: on(5),
-                        has_v_extension: on(6),
-                        has_crypto_extension: on(7),
-                        has_c_extension: false,
-                        has_zfinx: false,
-                        has_sstc_extension: false,
-                        has_zicbom_extension: false,
-                        has_zicboz_extension: false,
-                    },
-                },
-            }
-        }
-    }
-}
+pub mod host;
 
 /// The functions of the text, each called from inside this crate. A small function may be built anew in the crate that calls it, with
 /// that crate's way with overflow; these are not, so they keep the one that the workspace gives to this package.
