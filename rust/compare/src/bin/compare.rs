@@ -148,7 +148,12 @@ mod run {
                 let whole = if kind >= 7 && flags & 1 == 1 { 0xFFFF } else { 0xFFFF_FFFF };
                 let word = self.library.write(ours);
                 if word != raw & whole {
-                    found.differs(format!("{} {raw:#X} under {}: read as {}, written as {word:#X}", reading.name(), self.profile, text(ours)));
+                    found.differs(format!(
+                        "{} {raw:#X} under {}: read as {}, written as {word:#X}",
+                        reading.name(),
+                        self.profile,
+                        text(ours)
+                    ));
                 }
             }
         }
@@ -201,7 +206,10 @@ mod run {
             });
             let part = part.into_inner().unwrap();
             let Found { compared, outside, written, differ, .. } = part;
-            println!("{name}: {compared} compared, {outside} outside, {written} written back, {differ} differ ({:.1} s)", began.elapsed().as_secs_f64());
+            println!(
+                "{name}: {compared} compared, {outside} outside, {written} written back, {differ} differ ({:.1} s)",
+                began.elapsed().as_secs_f64()
+            );
             for line in &part.first {
                 println!("  {line}");
             }
@@ -340,8 +348,14 @@ mod run {
                     let csrrs = address << 20 | 0x2073;
                     if address < 4096 {
                         let read = library.system(csrrs);
-                        let wanted = if theirs.is_some() { u64::from_le_bytes([5, 2, address as u8, (address >> 8) as u8, 0, 0, 0, 0]) } else { System.refused(2) };
-                        found.same(read == wanted, || format!("{csrrs:#X} under {profile}: the library {}, wanted {}", text(read), text(wanted)));
+                        let wanted = if theirs.is_some() {
+                            u64::from_le_bytes([5, 2, address as u8, (address >> 8) as u8, 0, 0, 0, 0])
+                        } else {
+                            System.refused(2)
+                        };
+                        found.same(read == wanted, || {
+                            format!("{csrrs:#X} under {profile}: the library {}, wanted {}", text(read), text(wanted))
+                        });
                         count += u64::from(theirs.is_some());
                     }
                     found.same(ours == theirs && ours.as_ref().is_none_or(|(_, at)| *at == address), || {
@@ -370,7 +384,13 @@ mod run {
                 Some(listed) => {
                     let row = row("### `idx`", listed).is_some();
                     let same = row && a.err().map(|r| r.number()) == Some(7);
-                    found.same(same, || format!("{name}: {a:?}, {} {b:#X}, and {listed} is{} in docs/DIFFERENCES.md", Original::NAME, if row { "" } else { " not" }));
+                    found.same(same, || {
+                        format!(
+                            "{name}: {a:?}, {} {b:#X}, and {listed} is{} in docs/DIFFERENCES.md",
+                            Original::NAME,
+                            if row { "" } else { " not" }
+                        )
+                    });
                 }
                 None => {
                     found.same(a == Ok(b), || format!("{name}: {a:?}, {} {b:#X}", Original::NAME));
@@ -426,7 +446,9 @@ mod run {
             for value in values.into_iter().chain(more) {
                 for bytes in [1, 2, 4, 8] {
                     let (ours, theirs) = (Library::sign_extend(value, bytes), R::sign_extend(value, bytes));
-                    found.same(ours == theirs, || format!("sign_extend({value:#X}, {bytes}): the library {ours:#X}, {} {theirs:#X}", R::NAME));
+                    found.same(ours == theirs, || {
+                        format!("sign_extend({value:#X}, {bytes}): the library {ours:#X}, {} {theirs:#X}", R::NAME)
+                    });
                 }
                 for bytes in [0, 3, 5, 7, 9, 16, 1 << 32, u64::MAX] {
                     let ours = Library::sign_extend(value, bytes);
@@ -505,7 +527,9 @@ mod run {
                 };
                 ways.entry(way).or_insert((0, raw)).0 += 1;
                 let same = match (R::NAME == StandIn::NAME, raw == class.example) {
-                    (true, _) => theirs.as_ref().is_err_and(|panic| panic.contains(&format!(" {raw:#x} is refused with {} (", class.wanted))),
+                    (true, _) => {
+                        theirs.as_ref().is_err_and(|panic| panic.contains(&format!(" {raw:#x} is refused with {} (", class.wanted)))
+                    }
                     (_, true) => {
                         let theirs = theirs.as_ref().map_or_else(|panic| format!("panics: {panic}"), |answer| text(*answer));
                         let section = format!("### The {} reading", class.reading.name());
@@ -514,10 +538,19 @@ mod run {
                     // the rest of the class does what its example does
                     _ => ways.len() == 1,
                 };
-                found.same(same, || format!("{}, {}: {raw:#X}: the Rust {theirs:?}, which docs/DIFFERENCES.md does not say", class.reading.name(), class.name));
+                found.same(same, || {
+                    format!(
+                        "{}, {}: {raw:#X}: the Rust {theirs:?}, which docs/DIFFERENCES.md does not say",
+                        class.reading.name(),
+                        class.name
+                    )
+                });
             }
             let ways: Vec<String> = ways.iter().map(|(way, (n, first))| format!("{n} {way} (first {first:#X})")).collect();
-            lines.lock().unwrap().insert(chunk, format!("{}, {}: {}; the library refuses {}", class.reading.name(), class.name, ways.join("; "), class.wanted));
+            lines.lock().unwrap().insert(
+                chunk,
+                format!("{}, {}: {}; the library refuses {}", class.reading.name(), class.name, ways.join("; "), class.wanted),
+            );
         });
         for line in lines.into_inner().unwrap().values() {
             println!("  {line}");

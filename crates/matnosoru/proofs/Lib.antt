@@ -1,0 +1,4 @@
+pub mod Writing
+pub mod Crossing
+pub mod Accepted
+pub mod Tables

@@ -1,0 +1,15 @@
+-- `matnosoru::matnosoru_csr_count` meets its contract: the count is that of the profile. Assumes nothing.
+use mathlib.Core.Path.{ap, _∙_}
+use Rattle.profiles.specs.Count.{countDef}
+use borrow.Author.Needs.{needs}
+use Rattle.matnosoru.proofs.matnosoru_csr_count.Statement.{statement}
+use Rattle.matnosoru.proofs.matnosoru_csr_count.Tie as tie
+
+pub matnosoru-csr-count-spec : {M : Type 1} → statement M
+matnosoru-csr-count-spec =
+    tie.close
+    (tie.spec
+    (λ c κs. search needs)
+    (λ c κs. search needs)
+    (λ c. search needs)
+    (λ c. c .count .ensures ∙ ap countDef (c .before .profile-of .ensures)))
