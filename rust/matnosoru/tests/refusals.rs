@@ -118,13 +118,13 @@ fn words() {
     for kind in [0, 9, 10, 0x21, 0xFF] {
         assert_eq!(write(kind), Err(Refusal::RecordKind), "{kind}");
     }
-    // fence 3, operation 0 and 4, width 3 and 0, flags 4; something above the record
-    for word in [0x0304, 0x0005, 0x0405, 0x0307, 0x0007, 0x04_0107, 0x02_0108, 0x0101, 1 << 63 | 4] {
+    // fence 3, operation 0 and 4, a CSR field above 4095 (with a register above 31 too), width 3 and 0, flags 4; something above the record
+    for word in [0x0304, 0x0005, 0x0405, 0x1000_0306, 0x20_1000_0306, 0x0307, 0x0007, 0x04_0107, 0x02_0108, 0x0101, 1 << 63 | 4] {
         assert_eq!(write(word), Err(Refusal::RecordField), "{word:#x}");
     }
-    // a CSR field above 4095 is an address like any other that has no register: 7, after 6
-    assert_eq!(write(0x0306 | 0x1000_0000), Err(Refusal::NoSuchCsr));
-    assert_eq!(write(0x0306 | 0x20_1000_0000), Err(Refusal::RegisterRange));
+    // an address that has no register, alone and with a register above 31
+    assert_eq!(write(0x0FFF_0306), Err(Refusal::NoSuchCsr));
+    assert_eq!(write(0x20_0FFF_0306), Err(Refusal::RegisterRange));
     // rs1 32 of a fence, rd 32 of a CSR form, rs1 32 of a load
     for word in [0x20_0004, 0x20_0300_0105, 0x20_0000_0107] {
         assert_eq!(write(word), Err(Refusal::RegisterRange), "{word:#x}");
