@@ -1,5 +1,5 @@
 -- Which words are of which line of the SYSTEM table, by the fields that the lines fix. Assumes nothing.
-use mathlib.Core.Path.{_≡_, refl, sym, ap, _∙_}
+use mathlib.Core.Path.{_≡_, refl, sym, ap, subst, _∙_}
 use mathlib.Core.Bool.{Bool, true, false, cond}
 use mathlib.Core.List.{List, [], _∷_, _++_}
 use Prim.Native.Nat.{ℕ, _+_, _*_, _/_, _%_, _^_, _<_}
@@ -15,13 +15,14 @@ use Rattle.forms.specs.Table.{Kind, form, none, first, distinct}
 use Rattle.forms.specs.Speech.{Every, readAs, readOf, bitOf}
 use Rattle.forms.proofs.Tests.{both, join, on}
 use Rattle.forms.proofs.Laws.{read-build}
-use Rattle.forms.proofs.Table.{row, Inside, row-reads}
+use Rattle.forms.proofs.Table.{no-form, row, Inside, row-reads}
 use Rattle.forms.proofs.Codes.{bit-one}
 use Rattle.decoder.specs.declared.CsrOp.{CsrOp}
 use Rattle.decoder.specs.declared.CsrOp.the-variants.{Write, Set, Clear}
 use Rattle.decoder.specs.declared.Fence.{Fence}
 use Rattle.decoder.specs.declared.Fence.the-variants.{Vma, Vvma, Gvma}
-use Rattle.decoder.specs.Forms.{nth, plain, fenced, wfi, mret, sret, sfence-vma, hfence-vvma, hfence-gvma, accesses, system}
+use Rattle.decoder.specs.Forms.{nth, plain, fenced, wfi, mret, sret, sfence-vma, hfence-vvma, hfence-gvma, csrrw, csrrs, csrrc, csrrwi, csrrsi, csrrci, accesses, system}
+use Rattle.decoder.specs.System as System
 use Rattle.decoder.specs.System.{Shape, fence, access, opCode, funct3, funct7, speech, accessAt, shapeAt}
 
 -- ---- the fields that a layout fixes
@@ -189,3 +190,46 @@ op-of Clear true = refl
 
 pub low-two : (w : ℕ) → fld w 12 3 % 4 ≡ fld w 12 2
 low-two w = omega arith
+
+-- ---- and back: the fields of a word that is read as a fence, or in CSR form
+abbrev pub FieldsOf : ℕ → Shape → Type 0
+FieldsOf w System.wfi = Unit {0}
+FieldsOf w System.mret = Unit {0}
+FieldsOf w System.sret = Unit {0}
+FieldsOf w (fence f a b) = (a ≡ fld w 15 5) × (b ≡ fld w 20 5)
+FieldsOf w (access o m a d x) = (fld w 12 3 ≡ funct3 o m) × ((a ≡ fld w 20 12) × ((d ≡ fld w 7 5) × (x ≡ fld w 15 5)))
+
+module _ (w : ℕ) where
+  abbrev Has : List Layout → Type 0
+  Has T = Every (λ L. matches L w ≡ true → FieldsOf w (speech .make (read L w))) T
+
+  by-lines : (T : List Layout) → Has T → (s : Shape) → readOf T speech w ≡ form s → FieldsOf w s
+  by-lines [] h s = no-form 1 s
+  by-lines (L ∷ T) h s =
+      on (λ (k : Kind Layout). readAs speech w k ≡ form s → FieldsOf w s) (readable w L)
+      (λ e q. subst (FieldsOf w) ((let z : speech .make (read L w) ≡ s = cc in z)) (h .0 (both (matches L w) (spares L (read L w)) e .0)))
+      (λ _. by-lines T (h .1) s)
+
+  six-have : Has accesses
+  six-have = (
+    λ m. (fixed csrrw w m .0, (refl, (refl, refl))),
+    (
+      λ m. (fixed csrrs w m .0, (refl, (refl, refl))),
+      (
+        λ m. (fixed csrrc w m .0, (refl, (refl, refl))),
+        (
+          λ m. (fixed csrrwi w m .0, (refl, (refl, refl))),
+          (
+            λ m. (fixed csrrsi w m .0, (refl, (refl, refl))),
+            (λ m. (fixed csrrci w m .0, (refl, (refl, refl))), tt),
+          ),
+        ),
+      ),
+    ),
+  )
+
+  pub shape-fields : (s : Shape) → shapeAt w ≡ form s → FieldsOf w s
+  unfolding shapeAt accessAt
+  shape-fields s =
+      on (λ (k : Kind Shape). k ≡ form s → FieldsOf w s) (ltb w (2 ^ 32))
+      (λ _. by-lines system (λ m. tt, (λ m. tt, (λ m. tt, (λ m. (refl, refl), (λ m. (refl, refl), (λ m. (refl, refl), six-have)))))) s) (λ _. by-lines accesses six-have s)

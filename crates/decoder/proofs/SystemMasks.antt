@@ -10,8 +10,7 @@ use lib.Dec.{eqb}
 use Rattle.utils.specs.Field.{fld}
 use Rattle.utils.proofs.Bits.{mask-field}
 use Rattle.utils.proofs.Digits.{fld-lt}
-use Rattle.registers.specs.declared.Register.{Register}
-use Rattle.decoder.specs.System.{readOnly, reg}
+use Rattle.decoder.specs.System.{readOnly}
 
 -- (a & 0b11 << 10) == 0b11 << 10
 pub access-test : (a : ℕ) → eqb (bitAnd a 3072) 3072 ≡ readOnly a
@@ -20,10 +19,6 @@ access-test a = ap (λ (x : ℕ). eqb x 3072) (and-high a 2 10) ∙ go (fld a 10
     go : (x : ℕ) (b : Bool) → eqb x 3 ≡ b → eqb (x * 2 ^ 10) 3072 ≡ b
     go x true e = let z = eqb-true x 3 e in eq-eqb (x * 2 ^ 10) 3072 (omega arith)
     go x false e = let z = eqb-false x 3 e in ne-eqb (x * 2 ^ 10) 3072 (λ q. z (omega arith))
-
--- a register, masked and then cut to five bits again by `Register::from`
-pub five : (w k : ℕ) {r : Register} → r ≡ reg (bitAnd (w / 2 ^ k) 31 % 2 ^ 5) → r .0 ≡ fld w k 5
-five w k e = ap (λ (r : Register). r .0) e ∙ ap (λ (x : ℕ). x % 2 ^ 5) (mask-field w k 5) ∙ mod-eq-of-lt (fld-lt w k 5)
 
 -- w & 0b111 << 12, and of that & 0b011 << 12
 pub func3-mask : (w : ℕ) → bitAnd w 28672 ≡ fld w 12 3 * 2 ^ 12

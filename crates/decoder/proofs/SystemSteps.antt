@@ -21,7 +21,7 @@ use Rattle.decoder.specs.declared.Fence.{Fence}
 use Rattle.decoder.specs.declared.Fence.the-variants.{Vma, Vvma, Gvma}
 use Rattle.decoder.specs.declared.IllegalRead.the-variants.{Inst, Unknown, InvalidCsrOp}
 use Rattle.decoder.specs.System.{opCode, funct3, funct7, always, barredDef, reg, instOf, fenceOf, foundDef, readShape, accessAt, illegalDef}
-use Rattle.decoder.proofs.SystemMasks.{five, func3-mask, op-mask, fence-mask}
+use Rattle.decoder.proofs.SystemMasks.{func3-mask, op-mask, fence-mask}
 use Rattle.decoder.proofs.SystemLines.{FenceForm, past-wholes, unfit-other, at-fence, at-access, at-foreign, at-no-op, one-of-six, op-of}
 
 -- ---- decode_illegal_instruction
@@ -47,10 +47,10 @@ module _ (w : ℕ) (h : w < 2 ^ 64) (k : ℕ) where
   fence-told f = fence-mask w h ∙ (λ j. f .above j * 2 ^ 25 + f .middle j * 2 ^ 7) ∙ add-zero (k * 2 ^ 25)
 
 pub fenced : (p : Profile) (w : ℕ) (f : Fence) → w < 2 ^ 64 → bitAnd w 127 ≡ 115 → bitAnd w 18446744073676029824 ≡ funct7 f * 2 ^ 25
-    → {a b : Register} → a ≡ reg (bitAnd (w / 2 ^ 15) 31 % 2 ^ 5) → b ≡ reg (bitAnd (w / 2 ^ 20) 31 % 2 ^ 5) → Inst (fenceOf f (a .0) (b .0)) ≡ illegalDef p w
+    → {a b : Register} → a ≡ reg (fld w 15 5) → b ≡ reg (fld w 20 5) → Inst (fenceOf f (a .0) (b .0)) ≡ illegalDef p w
 unfolding illegalDef
 fenced p w f h e m q r =
-    (λ j. Inst (fenceOf f (five w 15 q j) (five w 20 r j))) ∙ sym (ap (readShape p) (at-fence w f (opcode w e) (told-fence w h (funct7 f) m)))
+    (λ j. Inst (fenceOf f (q j .0) (r j .0))) ∙ sym (ap (readShape p) (at-fence w f (opcode w e) (told-fence w h (funct7 f) m)))
 
 -- the word is none of WFI, MRET, SRET and the fences
 pub other : (p : Profile) (w : ℕ) → w < 2 ^ 64 → (w ≡ 0x10500073 → ⊥) → (w ≡ 0x30200073 → ⊥) → (w ≡ 0x10200073 → ⊥)
@@ -82,6 +82,14 @@ always-code Write = refl
 always-code Set = refl
 always-code Clear = refl
 
+each-op : (P : CsrOp → Bool → Type 0) → P Write false → P Set false → P Clear false → P Write true → P Set true → P Clear true → (o : CsrOp) (m : Bool) → P o m
+each-op P a b c d e f Write false = a
+each-op P a b c d e f Set false = b
+each-op P a b c d e f Clear false = c
+each-op P a b c d e f Write true = d
+each-op P a b c d e f Set true = e
+each-op P a b c d e f Clear true = f
+
 module _ (p : Profile) (w : ℕ) {b : Bool} (f : Form w b) where
   six : (o : CsrOp) × (m : Bool) × (fld w 12 3 ≡ funct3 o m)
   six = one-of-six (fld w 12 3) (fld-lt w 12 3) (λ z. f .op (op-mask w ∙ ap (λ (x : ℕ). x * 2 ^ 12) z))
@@ -103,23 +111,18 @@ module _ (p : Profile) (w : ℕ) {b : Bool} (f : Form w b) where
     pub missing : r ≡ Missing → InvalidCsrOp ≡ readShape p (accessAt w)
     missing g = let o = six in (λ j. cond (sym t j) InvalidCsrOp (foundDef (sym g j) (o .0) (o .1) (fld w 7 5) (fld w 15 5))) ∙ read (o .0) (o .1) (o .2) k
 
-    pub found : (c : Csr) → r ≡ Found c → (o : CsrOp) (m : Bool) → bitAnd w 28672 ≡ funct3 o m * 2 ^ 12 → {d : Register} → d ≡ reg (bitAnd (w / 2 ^ 7) 31 % 2 ^ 5) → {x : ℕ} → x ≡ fld w 15 5
+    pub found : (c : Csr) → r ≡ Found c → (o : CsrOp) (m : Bool) → bitAnd w 28672 ≡ funct3 o m * 2 ^ 12 → {d : Register} → d ≡ reg (fld w 7 5) → {x : ℕ} → x ≡ fld w 15 5
         → Inst (instOf o m c (d .0) x) ≡ readShape p (accessAt w)
     found c g o m e l s =
-        (λ j. Inst (instOf o m c (five w 7 l j) (s j)))
+        (λ j. Inst (instOf o m c (l j .0) (s j)))
         ∙ (λ j. cond (sym t j) InvalidCsrOp (foundDef (sym g j) o m (fld w 7 5) (fld w 15 5))) ∙ read o m (f3 (fld w 12 3) (funct3 o m) (sym (func3-mask w) ∙ e)) k
       where
         f3 : (x y : ℕ) → x * 2 ^ 12 ≡ y * 2 ^ 12 → x ≡ y
         f3 x y h = omega arith
 
   -- funct3 is one of the six
-  pub no-other : ((o : CsrOp) (m : Bool) → bitAnd w 28672 ≡ funct3 o m * 2 ^ 12 → ⊥) → ⊥
-  no-other n = let o = six in n (o .0) (o .1) (func3-mask w ∙ ap (λ (x : ℕ). x * 2 ^ 12) (o .2))
-
-pub each-op : (P : CsrOp → Bool → Type 0) → P Write false → P Set false → P Clear false → P Write true → P Set true → P Clear true → (o : CsrOp) (m : Bool) → P o m
-each-op P a b c d e f Write false = a
-each-op P a b c d e f Set false = b
-each-op P a b c d e f Clear false = c
-each-op P a b c d e f Write true = d
-each-op P a b c d e f Set true = e
-each-op P a b c d e f Clear true = f
+  pub left : (bitAnd w 28672 ≡ 0x1000 → ⊥) → (bitAnd w 28672 ≡ 0x2000 → ⊥) → (bitAnd w 28672 ≡ 0x3000 → ⊥) → (bitAnd w 28672 ≡ 0x5000 → ⊥) → (bitAnd w 28672 ≡ 0x6000 → ⊥) → bitAnd w 28672 ≡ 0x7000
+  left g h i j k =
+      let o = six in
+      each-op (λ o m. bitAnd w 28672 ≡ funct3 o m * 2 ^ 12 → bitAnd w 28672 ≡ 0x7000) (λ q. absurd (g q)) (λ q. absurd (h q)) (λ q. absurd (i q)) (λ q. absurd (j q)) (λ q. absurd (k q)) (λ q. q) (o .0) (o .1)
+      (func3-mask w ∙ ap (λ (x : ℕ). x * 2 ^ 12) (o .2))

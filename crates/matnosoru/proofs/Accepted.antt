@@ -1,86 +1,35 @@
 -- A record that is accepted can be written, so that its line has an answer; and that line is short. Assumes nothing.
 use mathlib.Core.Path.{_≡_, refl, sym, ap, subst, _∙_}
-use mathlib.Core.Bool.{Bool, true, false, _&&_, cond}
-use mathlib.Core.List.{List, _++_}
+use mathlib.Core.Bool.{Bool, true, false, cond}
+use mathlib.Core.List.{List}
 use Prim.Native.Nat.{ℕ, _^_, _<_, _≤_}
 use native.Mathlib.Omega.{arith}
-use borrow.Author.Tests.{leb-true}
-use lib.Dec.{eqb, leb, ltb}
+use lib.Dec.{leb, ltb}
 use lib.ListN.{length, getD}
-use Rattle.registers.specs.declared.Csr.{Csr}
-use Rattle.registers.specs.declared.Idx.{Idx}
-use Rattle.registers.specs.declared.Idx.the-variants.{At, Refused as Nowhere}
-use Rattle.registers.specs.declared.Register.{Register}
 use Rattle.profiles.specs.declared.Profile.{Profile}
 use Rattle.forms.specs.declared.Wrote.{Wrote}
 use Rattle.forms.specs.declared.Wrote.the-variants.{Word, Refused}
-use Rattle.forms.specs.Speech.{writeOf}
 use Rattle.forms.specs.Table.{Kind, form, none}
 use Rattle.forms.proofs.Table.{no-form}
-use Rattle.forms.proofs.Tests.{both, on}
-use Rattle.decoder.specs.declared.CsrOp.{CsrOp}
-use Rattle.decoder.specs.declared.CsrOp.the-variants.{Write, Set, Clear}
-use Rattle.decoder.specs.declared.Fence.{Fence}
-use Rattle.decoder.specs.declared.Fence.the-variants.{Vma, Vvma, Gvma}
-use Rattle.decoder.specs.declared.IllegalInst.{IllegalInst}
-use Rattle.decoder.specs.declared.IllegalInst.the-variants.{Wfi, Csrrw, Csrrs, Csrrc, Csrrwi, Csrrsi, Csrrci, Mret, Sret, Sfencevma, Hfencevvma, Hfencegvma}
-use Rattle.decoder.specs.Forms.{system}
-use Rattle.decoder.specs.System.{Shape, speech}
-use Rattle.encoder.specs.System.{addressFor, placed, accessFor, fenceFor, shapeFor, writeShape, encodeIllegalDef}
+use Rattle.forms.proofs.Tests.{on}
+use Rattle.decoder.specs.System.{Shape}
+use Rattle.encoder.specs.System.{shapeFor}
 use Rattle.encoder.specs.LoadStore.{encodeLoadDef, encodeStoreDef}
-use Rattle.encoder.proofs.SystemSteps.{address-at, access-word, fence-word}
 use Rattle.octets.specs.declared.Emitted.{Emitted}
-use Rattle.octets.specs.Bytes.{pad, emitted, emittedOut}
-use Rattle.text.specs.Text.{ascii, decimal}
-use Rattle.traplog.specs.declared.Content.{Content}
-use Rattle.traplog.specs.declared.Content.the-variants.{Is, Bad}
+use Rattle.octets.specs.Bytes.{emitted, emittedOut}
 use Rattle.traplog.specs.declared.Record.{Record}
 use Rattle.traplog.specs.declared.Record.the-variants.{System, Load, Store, Refusal, Hart}
 use Rattle.traplog.specs.declared.RecordRead.{RecordRead}
-use Rattle.traplog.specs.declared.RecordRead.the-variants.{Got, Refused as NoRecord}
+use Rattle.traplog.specs.declared.RecordRead.the-variants.{Got}
 use Rattle.traplog.specs.Record.{pairs, shaped, ifWord, recordDef}
-use Rattle.traplog.specs.Read.{lengthOf, contentOf, acceptIf, accepted, parse}
+use Rattle.traplog.specs.Read.{parse}
+use Rattle.traplog.proofs.Accepted.{passed}
 use Rattle.traplog.proofs.Lengths.{at-most}
+use Rattle.traplog.proofs.Words.{system-word}
 use Rattle.listing.specs.declared.Line.{Line}
 use Rattle.listing.specs.Lines.{worded, answerOf, recordLine, lineOf, textOf}
 use Rattle.listing.proofs.Fits.{text-back, record-fits}
 use Rattle.matnosoru.specs.Abi.{Short, lineAnswer, lineDef, lineOut}
-
--- ---- a shape in which an instruction can be written has a word
-abbrev pub Writes : Kind Shape → Type 0
-Writes (form s) = (w : ℕ) × (writeOf system speech s ≡ Word w)
-Writes (none n) = Unit {0}
-
-access-writes : (p : Profile) (o : CsrOp) (m : Bool) (c : Csr) (d : Register) (x : ℕ) → Writes (accessFor p o m c d x)
-access-writes p o m c d x = go (addressFor p o c d x) refl
-  where
-    go : (i : Idx) → addressFor p o c d x ≡ i → Writes (placed i o m (d .0) x)
-    go (At a) e = let t = address-at p o c d x a e in (_, sym (access-word a (d .0) x (t .small) (t .rd) (t .src) o m))
-    go (Nowhere n) e = tt
-
-fence-writes : (f : Fence) (a b : Register) → Writes (fenceFor f a b)
-fence-writes f a b =
-    on Writes (leb (a .0) 31 && leb (b .0) 31)
-    (λ e. let t = both (leb (a .0) 31) (leb (b .0) 31) e in (_, sym (fence-word (a .0) (b .0) (leb-true (a .0) 31 (t .0)) (leb-true (b .0) 31 (t .1)) f)))
-    (λ _. tt)
-
-pub writes : (p : Profile) (i : IllegalInst) → Writes (shapeFor p i)
-writes p Wfi = (_, refl)
-writes p (Csrrw c d x) = access-writes p Write false c d (x .0)
-writes p (Csrrs c d x) = access-writes p Set false c d (x .0)
-writes p (Csrrc c d x) = access-writes p Clear false c d (x .0)
-writes p (Csrrwi c d x) = access-writes p Write true c d x
-writes p (Csrrsi c d x) = access-writes p Set true c d x
-writes p (Csrrci c d x) = access-writes p Clear true c d x
-writes p Mret = (_, refl)
-writes p Sret = (_, refl)
-writes p (Sfencevma a b) = fence-writes Vma a b
-writes p (Hfencevvma a b) = fence-writes Vvma a b
-writes p (Hfencegvma a b) = fence-writes Gvma a b
-
-pub system-word : (p : Profile) (i : IllegalInst) (s : Shape) → shapeFor p i ≡ form s → (w : ℕ) × (encodeIllegalDef p i ≡ Word w)
-unfolding encodeIllegalDef
-system-word p i s e = let t = subst Writes e (writes p i) in (t .0, ap writeShape e ∙ t .1)
 
 -- ---- a record that can be written has an answer
 abbrev Answered : Kind (List ℕ) → Type 0
@@ -112,33 +61,11 @@ pub record Accepted (p : Profile) (r : Record) (n : ℕ) : Type 0 where
   pub answer : List ℕ
   pub is : answerOf p r ≡ form answer
 
-module _ (p : Profile) (r : Record) (n : ℕ) where
-  abbrev Reads : RecordRead → Type 0
-  Reads k = k ≡ Got r n → Accepted p r n
-
-  refused : (m : ℕ) → Reads (NoRecord m)
-  refused m e = absurd (let z : _≡_ {A = ℕ} 0 1 = cc in omega arith)
-
-  of-kind : (q : Record) (k : Kind (List ℕ)) → recordDef p q ≡ k → (l : ℕ) → l ≤ 11 → Reads (acceptIf k q l)
-  of-kind q (form bs) e l h f =
-      let same : q ≡ r = cc in
-      let long : l ≡ n = cc in
-      let t = answers p r bs (ap (recordDef p) (sym same) ∙ e) in
-      record { small = omega arith; answer = t .0; is = t .1 }
-  of-kind q (none m) e l h f = refused 13 f
-
-  of-content : (k : Content) (l : ℕ) → l ≤ 11 → Reads (accepted p k l)
-  of-content (Is q) l h = of-kind q (recordDef p q) refl l h
-  of-content Bad l h = refused 13
-
-  pub can-be-written : (s : List ℕ) → parse p s ≡ Got r n → Accepted p r n
-  unfolding parse
-  can-be-written s =
-      on Reads (eqb (length s) 0) (λ _. refused 12)
-      (λ _.
-      on Reads (eqb (lengthOf (getD s 0 0)) 0) (λ _. refused 11)
-      (λ _.
-      on Reads (ltb (length s) (lengthOf (getD s 0 0))) (λ _. refused 12) (λ _. of-content (contentOf p (pad 12 s)) (lengthOf (getD s 0 0)) (at-most (getD s 0 0)))))
+can-be-written : (p : Profile) (r : Record) (n : ℕ) (s : List ℕ) → parse p s ≡ Got r n → Accepted p r n
+can-be-written p r n s e =
+    let g = passed p s r n e in
+    let t = answers p r (g .bytes) (g .made) in
+    record { small = omega (arith, g .size, at-most (getD s 0 0)); answer = t .0; is = t .1 }
 
 -- ---- its line
 short-text : (t : List ℕ) (m : ℕ) → length t ≤ 40 → Short (emitted t m)

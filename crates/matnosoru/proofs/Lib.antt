@@ -2,3 +2,4 @@ pub mod Writing
 pub mod Crossing
 pub mod Accepted
 pub mod Tables
+pub mod Reading

@@ -9,22 +9,13 @@ use Rattle.registers.specs.declared.Idx.{Idx}
 use Rattle.registers.specs.Find.{Spot, is, nothing, find, downFrom, join}
 use Rattle.registers.specs.Address.{idxDef}
 use Rattle.profiles.specs.declared.Profile.{Profile}
+use Rattle.profiles.specs.declared.Gate.{Gate}
+use Rattle.profiles.specs.declared.Gate.the-variants.{Always, Zicntr, Zihpm, Tee, Smode, Hmode, Sstc, Vector, Crypto, MaskBit}
+use Rattle.profiles.specs.declared.Slot.{Slot}
+use Rattle.profiles.specs.declared.Slot.the-variants.{Holds, Empty}
 use Rattle.profiles.specs.declared.CsrLookup.{CsrLookup}
 use Rattle.profiles.specs.declared.CsrLookup.the-variants.{Found, Missing}
 use Rattle.profiles.specs.Profile.{bit}
-
--- what a register waits for: nothing, a flag, or a bit of the custom mask
-pub data Gate : Type 0 where
-  Always : Gate
-  Zicntr : Gate
-  Zihpm : Gate
-  Tee : Gate
-  Smode : Gate
-  Hmode : Gate
-  Sstc : Gate
-  Vector : Gate
-  Crypto : Gate
-  MaskBit : ℕ → Gate
 
 abbrev pub allowsDef : Profile → Gate → Bool
 allowsDef p Always = true
@@ -92,6 +83,11 @@ rowIdx r = idxDef (r .csr)
 
 unfoldable pub spotDef : ℕ → Spot Row
 spotDef a = find rowIdx a rows
+
+-- as the code's look-up answers it
+abbrev pub slotOf : Spot Row → Slot
+slotOf (is r) = Holds (r .gate) (r .csr)
+slotOf nothing = Empty
 
 -- the answer there, under a profile
 abbrev pub gatedDef : Bool → Csr → CsrLookup

@@ -6,6 +6,7 @@ use Rattle.traplog.specs.declared.Reading.the-variants.{System}
 use Rattle.traplog.specs.Trapped.{ofSystem, trappedDef}
 use Rattle.matnosoru.specs.Abi.{instructionWord}
 use borrow.Author.Needs.{needs}
+use Rattle.matnosoru.proofs.Reading.{system-number}
 use Rattle.matnosoru.proofs.matnosoru_read_system.Statement.{statement}
 use Rattle.matnosoru.proofs.matnosoru_read_system.Tie as tie
 
@@ -25,7 +26,8 @@ matnosoru-read-system-spec =
     (λ c.
     let f = c .before .before .before .before .before .profile-of in
     let w = c .before .before .before .before .before .before .args .raw in
-    c .image-word .ensures ∙ ap (λ (k : IllegalRead). instructionWord (f .result) (ofSystem k w)) (sym (c .before .before .inst .given .1) ∙ c .before .before .before .before .decode-illegal-instruction .ensures)
+    let e = sym (c .before .before .inst .given .1) ∙ c .before .before .before .before .decode-illegal-instruction .ensures in
+    c .packed-system .ensures ∙ system-number (f .result) w _ (sym e) ∙ ap (λ (k : IllegalRead). instructionWord (f .result) (ofSystem k w)) e
     ∙ ap (λ (p : Profile). instructionWord p (trappedDef p System w)) (f .ensures))
     (λ c.
     let f = c .before .before .before .before .profile-of in
