@@ -21,9 +21,9 @@ use Rattle.decoder.specs.declared.CsrOp.{CsrOp}
 use Rattle.decoder.specs.declared.CsrOp.the-variants.{Write, Set, Clear}
 use Rattle.decoder.specs.declared.Fence.{Fence}
 use Rattle.decoder.specs.declared.Fence.the-variants.{Vma, Vvma, Gvma}
-use Rattle.decoder.specs.Forms.{nth, plain, fenced, wfi, mret, sret, sfence-vma, hfence-vvma, hfence-gvma, csrrw, csrrs, csrrc, csrrwi, csrrsi, csrrci, accesses, system}
+use Rattle.decoder.specs.Forms.{funct7, nth, plain, fenced, wfi, mret, sret, sfence-vma, hfence-vvma, hfence-gvma, csrrw, csrrs, csrrc, csrrwi, csrrsi, csrrci, accesses, system}
 use Rattle.decoder.specs.System as System
-use Rattle.decoder.specs.System.{Shape, fence, access, opCode, funct3, funct7, speech, accessAt, shapeAt}
+use Rattle.decoder.specs.System.{Shape, fence, access, opCode, funct3, speech, accessAt, shapeAt}
 
 -- ---- the fields that a layout fixes
 abbrev Fixed : Layout → ℕ → Type 0

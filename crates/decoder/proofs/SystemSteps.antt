@@ -20,7 +20,8 @@ use Rattle.decoder.specs.declared.CsrOp.the-variants.{Write, Set, Clear}
 use Rattle.decoder.specs.declared.Fence.{Fence}
 use Rattle.decoder.specs.declared.Fence.the-variants.{Vma, Vvma, Gvma}
 use Rattle.decoder.specs.declared.IllegalRead.the-variants.{Inst, Unknown, InvalidCsrOp}
-use Rattle.decoder.specs.System.{opCode, funct3, funct7, always, barredDef, reg, instOf, fenceOf, foundDef, readShape, accessAt, illegalDef}
+use Rattle.decoder.specs.Forms.{funct7}
+use Rattle.decoder.specs.System.{opCode, funct3, always, barredDef, reg, instOf, fenceOf, foundDef, readShape, accessAt, illegalDef}
 use Rattle.decoder.proofs.SystemMasks.{func3-mask, op-mask, fence-mask}
 use Rattle.decoder.proofs.SystemLines.{FenceForm, past-wholes, unfit-other, at-fence, at-access, at-foreign, at-no-op, one-of-six, op-of}
 

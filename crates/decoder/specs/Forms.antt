@@ -4,6 +4,8 @@ use Prim.Native.Nat.{ℕ}
 use mathlib.Core.List.{List, [], _∷_, _++_}
 use Rattle.forms.specs.Layout.{Layout, take, rd, rs1, rs2, funct, csr}
 use Rattle.forms.specs.Segments.{fix, field, im, reg, creg, equal, except, step, long, like}
+use Rattle.decoder.specs.declared.Fence.{Fence}
+use Rattle.decoder.specs.declared.Fence.the-variants.{Vma, Vvma, Gvma}
 
 -- ---- loads: the operand funct is funct3, which is the width and the sign
 -- LB, LH, LW, LD, LBU, LHU, LWU; funct3 7 is reserved
@@ -55,17 +57,22 @@ abbrev pub sret : Layout
 sret = plain 0b000100000010 ++ nth 2
 
 -- funct7 | rs2 | rs1 | 0 | 0 | SYSTEM
+abbrev pub funct7 : Fence → ℕ
+funct7 Vma = 0b0001001
+funct7 Vvma = 0b0010001
+funct7 Gvma = 0b0110001
+
 abbrev pub fenced : ℕ → Layout
-fenced funct7 = fix 7 funct7 ++ reg rs2 ++ reg rs1 ++ fix 3 0 ++ fix 5 0 ++ fix 7 0x73
+fenced f = fix 7 f ++ reg rs2 ++ reg rs1 ++ fix 3 0 ++ fix 5 0 ++ fix 7 0x73
 
 abbrev pub sfence-vma : Layout
-sfence-vma = fenced 0b0001001 ++ nth 3
+sfence-vma = fenced (funct7 Vma) ++ nth 3
 
 abbrev pub hfence-vvma : Layout
-hfence-vvma = fenced 0b0010001 ++ nth 4
+hfence-vvma = fenced (funct7 Vvma) ++ nth 4
 
 abbrev pub hfence-gvma : Layout
-hfence-gvma = fenced 0b0110001 ++ nth 5
+hfence-gvma = fenced (funct7 Gvma) ++ nth 5
 
 -- csr | rs1 or uimm | funct3 | rd | SYSTEM
 abbrev pub access : ℕ → Layout

@@ -50,12 +50,6 @@ opCode Clear = 3
 abbrev pub funct3 : CsrOp → Bool → ℕ
 funct3 o m = opCode o + 4 * bitOf m
 
--- bits 31:25 of a fence, as the three lines of the table have them
-abbrev pub funct7 : Fence → ℕ
-funct7 Vma = 0b0001001
-funct7 Vvma = 0b0010001
-funct7 Gvma = 0b0110001
-
 -- the log's codes of the fences
 abbrev pub fenceCode : Fence → ℕ
 fenceCode Vma = 0

@@ -28,8 +28,8 @@ use Rattle.decoder.specs.declared.CsrOp.{CsrOp}
 use Rattle.decoder.specs.declared.CsrOp.the-variants.{Write, Set, Clear}
 use Rattle.decoder.specs.declared.Fence.{Fence}
 use Rattle.decoder.specs.declared.Fence.the-variants.{Vma, Vvma, Gvma}
-use Rattle.decoder.specs.Forms.{system}
-use Rattle.decoder.specs.System.{Shape, fence, access, operandsOf, funct3, funct7, always, barredDef, speech}
+use Rattle.decoder.specs.Forms.{funct7, system}
+use Rattle.decoder.specs.System.{Shape, fence, access, operandsOf, funct3, always, barredDef, speech}
 use Rattle.encoder.specs.System.{below32, lookedUp, addressed, addressFor}
 
 -- ---- 6: z is the refusal

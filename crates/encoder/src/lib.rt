@@ -2,13 +2,13 @@
 // no word stands for is refused by document 01's numbers.
 ghost use mathlib.Core.Path.{_≡_};
 ghost use Prim.Native.Nat.{_*_, _^_, _≤_, _<_};
-ghost use Rattle.decoder.specs.System.{always, funct3, funct7};
+ghost use Rattle.decoder.specs.System.{always, funct3};
 ghost use Rattle.encoder.specs.System.{addressFor, accessFor, fenceFor, writeShape, encodeIllegalDef};
 ghost use mathlib.Core.Bool.{true, false};
 ghost use Rattle.utils.specs.Signed.{codeDef};
 ghost use Rattle.forms.specs.Layout.{build};
 ghost use Rattle.forms.specs.Speech.{writeOf};
-ghost use Rattle.decoder.specs.Forms.{load, store, c-lw, c-ld};
+ghost use Rattle.decoder.specs.Forms.{funct7, load, store, c-lw, c-ld};
 ghost use Rattle.decoder.specs.Funct3.{sizeOf, funct3Of};
 ghost use Rattle.decoder.specs.Load.{speech, mk};
 ghost use Rattle.encoder.specs.LoadStore.{encodeLoadDef, encodeStoreDef, parts, under, shorts, stepped};

@@ -8,7 +8,8 @@ use Rattle.utils.specs.Field.{fld}
 use Rattle.decoder.specs.declared.Fence.{Fence}
 use Rattle.decoder.specs.declared.Fence.the-variants.{Vma, Vvma, Gvma}
 use Rattle.decoder.specs.declared.IllegalRead.the-variants.{Inst}
-use Rattle.decoder.specs.System.{reg, funct7, fenceOf, shapeAt, illegalDef}
+use Rattle.decoder.specs.Forms.{funct7}
+use Rattle.decoder.specs.System.{reg, fenceOf, shapeAt, illegalDef}
 use Rattle.decoder.proofs.SystemSteps.{opcode, foreign, fenced, other, each-fence}
 use Rattle.decoder.proofs.decode_illegal_instruction.Statement.{statement}
 use Rattle.decoder.proofs.decode_illegal_instruction.Tie as tie
