@@ -17,15 +17,15 @@ use Rattle.encoder.specs.System.{shapeFor}
 use Rattle.encoder.specs.LoadStore.{encodeLoadDef, encodeStoreDef}
 use Rattle.octets.specs.declared.Emitted.{Emitted}
 use Rattle.octets.specs.Bytes.{emitted, emittedOut}
-use Rattle.traplog.specs.declared.Record.{Record}
-use Rattle.traplog.specs.declared.Record.the-variants.{System, Load, Store, Refusal, Hart}
+use Rattle.records.specs.declared.Record.{Record}
+use Rattle.records.specs.declared.Record.the-variants.{System, Load, Store, Refusal, Hart}
+use Rattle.records.specs.Record.{pairs, shaped, ifWord, recordDef}
+use Rattle.records.proofs.Lengths.{at-most}
+use Rattle.records.proofs.Words.{system-word}
 use Rattle.traplog.specs.declared.RecordRead.{RecordRead}
 use Rattle.traplog.specs.declared.RecordRead.the-variants.{Got}
-use Rattle.traplog.specs.Record.{pairs, shaped, ifWord, recordDef}
 use Rattle.traplog.specs.Read.{parse}
 use Rattle.traplog.proofs.Accepted.{passed}
-use Rattle.traplog.proofs.Lengths.{at-most}
-use Rattle.traplog.proofs.Words.{system-word}
 use Rattle.listing.specs.declared.Line.{Line}
 use Rattle.listing.specs.Lines.{worded, answerOf, recordLine, lineOf, textOf}
 use Rattle.listing.proofs.Fits.{text-back, record-fits}
@@ -72,7 +72,7 @@ short-text : (t : List ℕ) (m : ℕ) → length t ≤ 40 → Short (emitted t m
 unfolding emitted
 short-text t m h = on Short (ltb m (length t)) (λ _. tt) (λ _. h)
 
-module _ (p : Profile) (at : ℕ) (small : at < 2 ^ 64) (s : List ℕ) (r : Record) (n : ℕ) {k : RecordRead} (e : k ≡ parse p s) (got : k ≡ Got r n) {l : Line} (made : l ≡ lineOf (recordLine p at r)) where
+module _ (p : Profile) {at : ℕ} (s : List ℕ) (r : Record) (n : ℕ) {k : RecordRead} (e : k ≡ parse p s) (got : k ≡ Got r n) {l : Line} (made : l ≡ lineOf (recordLine p at r)) (small : at < 2 ^ 64) where
   ok : Accepted p r n
   ok = can-be-written p r n s (sym e ∙ got)
 

@@ -1,6 +1,5 @@
 -- `matnosoru::line_answer` meets its contract: each arm knows what was emitted, and a line is short. Assumes nothing.
-use mathlib.Core.Path.{_≡_, sym, ap, subst, _∙_}
-use Prim.Native.Nat.{ℕ, _+_, _*_, _≤_}
+use mathlib.Core.Path.{sym, ap, subst, _∙_}
 use native.Mathlib.Omega.{arith}
 use Rattle.matnosoru.specs.Abi.{Short, lineAnswer}
 use borrow.Author.Needs.{needs}

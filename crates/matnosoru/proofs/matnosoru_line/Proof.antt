@@ -1,6 +1,7 @@
 -- `matnosoru::matnosoru_line` meets its contract: a record that is accepted has a line that fits. Assumes nothing.
-use mathlib.Core.Path.{_≡_, sym, ap, _∙_}
+use mathlib.Core.Path.{sym, ap, _∙_}
 use lib.ListN.{length}
+use native.Mathlib.Omega.{arith}
 use denote.Ref.{now}
 use Rattle.profiles.specs.declared.Profile.{Profile}
 use Rattle.traplog.specs.declared.RecordRead.{RecordRead}
@@ -26,7 +27,7 @@ matnosoru-line-spec =
     let a = s .args in
     let p = c .before .before .before .before .before .before .before .before .before .profile-of in
     let r = c .before .before .before .before .before .before .«record» .given in
-    line-small (p .result) (a .at) (s .fits .at .fits) (now (a .log)) (r .0 .0) (r .0 .1 .0) (c .before .before .before .before .before .before .before .before .read-record .ensures) (r .1) (c .before .before .before .before .record-line .ensures) (length (now (a .out))) (c .before .before .emit-line .ensures .0))
+    line-small (p .result) (now (a .log)) (r .0 .0) (r .0 .1 .0) (c .before .before .before .before .before .before .before .before .read-record .ensures) (r .1) (c .before .before .before .before .record-line .ensures) (omega (arith, s .fits .at .fits)) (length (now (a .out))) (c .before .before .emit-line .ensures .0))
     (λ c. search needs)
     (λ c κs. search needs)
     (λ c. search needs)
@@ -35,8 +36,8 @@ matnosoru-line-spec =
     let a = s .args in
     let p = c .before .before .before .before .before .before .before .before .before .before .profile-of in
     let r = c .before .before .before .before .before .before .before .«record» .given in (
-      c .line-answer .ensures ∙ line-is (p .result) (a .at) (s .fits .at .fits) (now (a .log)) (r .0 .0) (r .0 .1 .0) (c .before .before .before .before .before .before .before .before .before .read-record .ensures) (r .1) (c .before .before .before .before .before .record-line .ensures) (length (now (a .out))) (c .before .before .before .emit-line .ensures .0) ∙ ap (λ (q : Profile). lineDef q (a .at) (parse q (now (a .log))) (length (now (a .out)))) (p .ensures),
-      c .before .before .before .emit-line .ensures .1 ∙ line-out (p .result) (a .at) (s .fits .at .fits) (now (a .log)) (r .0 .0) (r .0 .1 .0) (c .before .before .before .before .before .before .before .before .before .read-record .ensures) (r .1) (c .before .before .before .before .before .record-line .ensures) (now (a .out)) ∙ ap (λ (q : Profile). lineOut q (a .at) (parse q (now (a .log))) (now (a .out))) (p .ensures),
+      c .line-answer .ensures ∙ line-is (p .result) (now (a .log)) (r .0 .0) (r .0 .1 .0) (c .before .before .before .before .before .before .before .before .before .read-record .ensures) (r .1) (c .before .before .before .before .before .record-line .ensures) (omega (arith, s .fits .at .fits)) (length (now (a .out))) (c .before .before .before .emit-line .ensures .0) ∙ ap (λ (q : Profile). lineDef q (a .at) (parse q (now (a .log))) (length (now (a .out)))) (p .ensures),
+      c .before .before .before .emit-line .ensures .1 ∙ line-out (p .result) (now (a .log)) (r .0 .0) (r .0 .1 .0) (c .before .before .before .before .before .before .before .before .before .read-record .ensures) (r .1) (c .before .before .before .before .before .record-line .ensures) (omega (arith, s .fits .at .fits)) (now (a .out)) ∙ ap (λ (q : Profile). lineOut q (a .at) (parse q (now (a .log))) (now (a .out))) (p .ensures),
     ))
     (λ c.
     let a = c .before .before .before .before .before .before .before .before .args in

@@ -1,11 +1,10 @@
--- `matnosoru::matnosoru_read_store` meets its contract: what was read is small, and its number is its record's. Assumes nothing.
+-- `matnosoru::matnosoru_read_store` meets its contract: the profile is that of the two words. Assumes nothing.
 use mathlib.Core.Path.{ap, _∙_}
 use Rattle.profiles.specs.declared.Profile.{Profile}
 use Rattle.traplog.specs.declared.Reading.the-variants.{Store}
 use Rattle.traplog.specs.Trapped.{trappedDef}
-use Rattle.matnosoru.specs.Abi.{instructionWord}
+use Rattle.words.specs.Words.{instructionWord}
 use borrow.Author.Needs.{needs}
-use Rattle.matnosoru.proofs.Reading.{store-small, store-number}
 use Rattle.matnosoru.proofs.matnosoru_read_store.Statement.{statement}
 use Rattle.matnosoru.proofs.matnosoru_read_store.Tie as tie
 
@@ -15,14 +14,4 @@ matnosoru-read-store-spec =
     (tie.spec
     (λ c κs. search needs)
     (λ c κs. search needs)
-    (λ c κs. store-small (c .before .before .profile-of .result) (c .before .before .before .args .raw) _ (c .decode-store .ensures))
-    (λ c.
-    let f = c .before .before .before .profile-of in
-    let w = c .before .before .before .before .args .raw in
-    c .store-answer .ensures ∙ store-number (f .result) w _ (c .before .decode-store .ensures) ∙ ap (λ (p : Profile). instructionWord p (trappedDef p Store w)) (f .ensures))
-    (λ c κs. search needs)
-    (λ c κs. store-small (c .before .before .profile-of .result) (c .before .before .before .args .raw) _ (c .decode-store2 .ensures))
-    (λ c.
-    let f = c .before .before .before .profile-of in
-    let w = c .before .before .before .before .args .raw in
-    c .store-answer2 .ensures ∙ store-number (f .result) w _ (c .before .decode-store2 .ensures) ∙ ap (λ (p : Profile). instructionWord p (trappedDef p Store w)) (f .ensures)))
+    (λ c. c .read-store .ensures ∙ ap (λ (p : Profile). instructionWord p (trappedDef p Store (c .before .before .args .raw))) (c .before .profile-of .ensures)))

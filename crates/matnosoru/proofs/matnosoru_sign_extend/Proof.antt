@@ -1,6 +1,6 @@
 -- `matnosoru::matnosoru_sign_extend` meets its contract: more than eight bytes are no width, and each arm knows the width. Assumes nothing.
-use mathlib.Core.Path.{_≡_, sym, ap, _∙_}
-use Prim.Native.Nat.{_*_, _<_}
+use mathlib.Core.Path.{sym, ap, _∙_}
+use Prim.Native.Nat.{_*_}
 use native.Mathlib.Omega.{arith}
 use borrow.Author.Tests.{ne-eqb}
 use Rattle.utils.specs.declared.WidthFrom.{WidthFrom}

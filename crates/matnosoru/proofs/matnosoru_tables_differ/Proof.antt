@@ -1,5 +1,5 @@
 -- `matnosoru::matnosoru_tables_differ` meets its contract: each exit by the tests on its way. Assumes nothing.
-use mathlib.Core.Path.{_≡_, sym, ap, subst, _∙_}
+use mathlib.Core.Path.{sym, ap, subst, _∙_}
 use denote.Ref.{now}
 use Rattle.profiles.specs.declared.Difference.{Difference}
 use Rattle.profiles.specs.Table.{FirstDifference}

@@ -1,7 +1,7 @@
 -- `matnosoru::matnosoru_write` meets its contract. Assumes nothing.
 use mathlib.Core.Path.{ap, _∙_}
 use Rattle.profiles.specs.declared.Profile.{Profile}
-use Rattle.matnosoru.specs.Abi.{crossed, written}
+use Rattle.words.specs.Words.{crossed, written}
 use borrow.Author.Needs.{needs}
 use Rattle.matnosoru.proofs.matnosoru_write.Statement.{statement}
 use Rattle.matnosoru.proofs.matnosoru_write.Tie as tie
@@ -12,4 +12,4 @@ matnosoru-write-spec =
     (tie.spec
     (λ c κs. search needs)
     (λ c κs. search needs)
-    (λ c. c .write-word .ensures ∙ ap (λ (p : Profile). crossed (written p (c .before .before .args .instruction-word))) (c .before .profile-of .ensures)))
+    (λ c. c .write .ensures ∙ ap (λ (p : Profile). crossed (written p (c .before .before .args .instruction-word))) (c .before .profile-of .ensures)))

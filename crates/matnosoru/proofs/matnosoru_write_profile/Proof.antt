@@ -4,11 +4,10 @@ use mathlib.Core.List.{List}
 use Prim.Native.Nat.{ℕ}
 use lib.ListN.{length}
 use denote.Ref.{now}
-use Rattle.profiles.specs.declared.Profile.{Profile}
 use Rattle.profiles.specs.Profile.{emptyProfile}
 use Rattle.forms.specs.Table.{Kind}
-use Rattle.traplog.specs.declared.Record.the-variants.{Hart}
-use Rattle.traplog.specs.Record.{recordDef, writtenDef, writtenOut}
+use Rattle.records.specs.declared.Record.the-variants.{Hart}
+use Rattle.records.specs.Record.{recordDef, writtenDef, writtenOut}
 use Rattle.matnosoru.specs.Abi.{profile, length-or}
 use borrow.Author.Needs.{needs}
 use Rattle.matnosoru.proofs.matnosoru_write_profile.Statement.{statement}

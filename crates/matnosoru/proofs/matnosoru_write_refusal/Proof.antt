@@ -7,8 +7,8 @@ use denote.Ref.{now}
 use Rattle.profiles.specs.declared.Profile.{Profile}
 use Rattle.profiles.specs.Profile.{emptyProfile}
 use Rattle.forms.specs.Table.{Kind}
-use Rattle.traplog.specs.declared.Record.the-variants.{Refusal}
-use Rattle.traplog.specs.Record.{recordDef, writtenDef, writtenOut}
+use Rattle.records.specs.declared.Record.the-variants.{Refusal}
+use Rattle.records.specs.Record.{recordDef, writtenDef, writtenOut}
 use Rattle.matnosoru.specs.Abi.{length-or}
 use borrow.Author.Needs.{needs}
 use Rattle.matnosoru.proofs.matnosoru_write_refusal.Statement.{statement}

@@ -1,15 +1,15 @@
 -- `matnosoru::put_word` meets its contract: the record is the front of the word's bytes. Assumes nothing.
 use mathlib.Core.Path.{_≡_, sym, ap, _∙_}
 use mathlib.Core.List.{List}
-use Prim.Native.Nat.{ℕ, _%_, _≤_}
+use Prim.Native.Nat.{ℕ, _%_}
 use native.Mathlib.Omega.{arith}
 use lib.ListN.{length, take}
 use lib.Seq.{length-take-le}
 use denote.Ref.{now}
 use Rattle.octets.specs.Bytes.{leBytes, emitted, emittedOut}
-use Rattle.traplog.specs.Read.{lengthOf}
+use Rattle.records.specs.Length.{lengthOf}
+use Rattle.words.proofs.Writing.{short-kind}
 use Rattle.matnosoru.specs.Abi.{length-or}
-use Rattle.matnosoru.proofs.Writing.{short-kind}
 use Rattle.matnosoru.proofs.Crossing.{front}
 use borrow.Author.Needs.{needs}
 use Rattle.matnosoru.proofs.put_word.Statement.{statement}
