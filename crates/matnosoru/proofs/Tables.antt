@@ -7,10 +7,10 @@ use native.Mathlib.Omega.{arith}
 use borrow.Author.Tests.{eq-eqb, ne-eqb}
 use lib.Dec.{eqb}
 use lib.ListN.{length, getD}
-use Rattle.profiles.specs.declared.Difference.{Difference}
-use Rattle.profiles.specs.declared.Table.{Table}
-use Rattle.profiles.specs.Table.{FirstDifference}
-use Rattle.profiles.proofs.Tables.{first-once}
+use Rattle.tables.specs.declared.Difference.{Difference}
+use Rattle.tables.specs.declared.Table.{Table}
+use Rattle.tables.specs.Table.{FirstDifference}
+use Rattle.tables.proofs.Tables.{first-once}
 use Rattle.octets.specs.Bytes.{fetch}
 use Rattle.matnosoru.specs.Abi.{tableOf, place, Compared, TablesDiffer}
 

@@ -2,4 +2,3 @@ pub mod Arms
 pub mod Laws
 pub mod Flags
 pub mod Size
-pub mod Tables

@@ -1,4 +1,3 @@
 pub mod Profile
 pub mod Gates
 pub mod Count
-pub mod Table
