@@ -2,13 +2,12 @@
 use mathlib.Core.Path.{_≡_, refl, sym, ap, _∙_}
 use mathlib.Core.Bool.{Bool, true, false, not, _||_, cond, false≢true}
 use mathlib.Core.Logic.{_⊎_, _↔_, inl, inr, ⊎-elim}
-use Prim.Native.Nat.{ℕ, _%_, _^_}
+use Prim.Native.Nat.{ℕ, _%_}
 use native.Mathlib.Omega.{arith}
 use borrow.Author.Tests.{eqb-true, eqb-false, eq-eqb, ne-eqb, not-true}
 use lib.Dec.{eqb}
 use Rattle.utils.specs.Field.{fld}
 use Rattle.utils.proofs.Digits.{fld-lt}
-use Rattle.utils.proofs.Signed.{by-test}
 use Rattle.profiles.specs.declared.CsrLookup.{CsrLookup}
 use Rattle.profiles.specs.declared.CsrLookup.the-variants.{Found, Missing}
 use Rattle.profiles.specs.declared.Profile.{Profile}
@@ -16,11 +15,10 @@ use Rattle.profiles.specs.Gates.{decodeCsrDef, isFound, available}
 use Rattle.forms.proofs.Tests.{both, join}
 use Rattle.decoder.specs.declared.CsrOp.{CsrOp}
 use Rattle.decoder.specs.declared.CsrOp.the-variants.{Write, Set, Clear}
-use Rattle.decoder.specs.declared.IllegalInst.{IllegalInst}
-use Rattle.decoder.specs.declared.IllegalRead.the-variants.{Inst, Unknown, InvalidCsrOp}
+use Rattle.decoder.specs.declared.IllegalRead.the-variants.{InvalidCsrOp}
 use Rattle.decoder.specs.System.{access, opCode, funct3, readOnly, always, barredDef, foundDef, instAt, readShape, illegalDef, numberOf}
 use Rattle.decoder.specs.Grounds.{CsrForm, address, Writes, ReadOnly, Grounds, Invalid}
-use Rattle.decoder.proofs.SystemLines.{past-wholes, unfit-csr, at-access, at-foreign, one-of-six, op-of, low-two}
+use Rattle.decoder.proofs.SystemLines.{past-wholes, unfit-csr, at-access, one-of-six, op-of, low-two}
 
 -- ---- the sentence
 -- k is bits 13:12, x the rs1 field

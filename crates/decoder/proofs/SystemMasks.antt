@@ -8,8 +8,6 @@ use borrow.Author.Tests.{eq-eqb, ne-eqb, eqb-true, eqb-false}
 use lib.Bits.{bitAnd, and-mask, and-high, and-shr, and-mod}
 use lib.Dec.{eqb}
 use Rattle.utils.specs.Field.{fld}
-use Rattle.utils.proofs.Bits.{mask-field}
-use Rattle.utils.proofs.Digits.{fld-lt}
 use Rattle.decoder.specs.System.{readOnly}
 
 -- (a & 0b11 << 10) == 0b11 << 10

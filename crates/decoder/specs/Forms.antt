@@ -2,7 +2,7 @@
 -- hold. Loads and stores are Volume I's, RV64I and C; SYSTEM words are Volume I's Zicsr and Volume II's listing of privileged instructions.
 use Prim.Native.Nat.{ℕ}
 use mathlib.Core.List.{List, [], _∷_, _++_}
-use Rattle.forms.specs.Layout.{Layout, take, rd, rs1, rs2, funct, csr}
+use Rattle.forms.specs.Layout.{Layout, rd, rs1, rs2, funct, csr}
 use Rattle.forms.specs.Segments.{fix, field, im, reg, creg, equal, except, step, long, like}
 use Rattle.decoder.specs.declared.Fence.{Fence}
 use Rattle.decoder.specs.declared.Fence.the-variants.{Vma, Vvma, Gvma}

@@ -1,7 +1,7 @@
 -- funct3 of loads and stores: its low two bits are the width, its bit 2 that a load is unsigned (Volume I, RV64I).
 use Prim.Native.Nat.{ℕ, _+_, _*_, _%_, _^_}
 use mathlib.Core.Bool.{Bool}
-use mathlib.Core.List.{List, [], _∷_}
+use mathlib.Core.List.{[], _∷_}
 use lib.ListN.{getD}
 use Rattle.utils.specs.declared.Width.{Width}
 use Rattle.utils.specs.declared.Width.the-variants.{Byte, Byte2, Byte4, Byte8}

@@ -10,7 +10,7 @@ use lib.Dec.{eqb, leb, ltb}
 use lib.ListN.{getD}
 use Rattle.utils.specs.declared.Code.the-variants.{Is, Out}
 use Rattle.forms.specs.declared.Wrote.the-variants.{Word}
-use Rattle.forms.specs.Layout.{Layout, Operand, imm, rd, rs1, rs2, funct, csr, short, others, code, all, good, every, Piece, piece, from, lit, pieces, place, gather, width, size, read, build, readable, chosen, holds}
+use Rattle.forms.specs.Layout.{Layout, Operand, imm, rd, rs1, rs2, funct, csr, short, code, all, good, every, Piece, piece, from, lit, pieces, place, gather, width, size, read, build, readable, chosen, holds}
 use Rattle.forms.specs.Table.{Kind, form, none, first, distinct, sound}
 use Rattle.forms.specs.Speech.{Speech, Speaks, Says, Every, Faithful, listed, roomOf, within, put, readAs, readOf, writeAs, writeOf, lits, below, fitted, limited}
 use Rattle.forms.specs.Demand3.{OnlyWord, RefusedExactly}

@@ -1,6 +1,6 @@
 -- The four widths of an access in bits and bytes, and sign extension from a width to 64 bits.
 use Prim.Native.Nat.{ℕ, _-_, _*_, _/_, _%_, _^_}
-use mathlib.Core.Bool.{Bool, cond}
+use mathlib.Core.Bool.{cond}
 use lib.Dec.{eqb}
 use Rattle.utils.specs.Signed.{signed, twos}
 use Rattle.utils.specs.declared.Width.{Width}

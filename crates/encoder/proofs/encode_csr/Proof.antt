@@ -1,5 +1,5 @@
 -- `encoder::encode_csr` meets its contract: an access that has an address is written by its line. Assumes nothing.
-use mathlib.Core.Path.{_≡_, sym, ap, _∙_}
+use mathlib.Core.Path.{sym, ap, _∙_}
 use Prim.Native.Nat.{ℕ}
 use borrow.Author.Needs.{needs}
 use Rattle.registers.specs.declared.Idx.{Idx}

@@ -1,5 +1,5 @@
 -- `registers::Register::from` meets its contract: the mask keeps the low five bits. Assumes nothing.
-use mathlib.Core.Path.{_≡_, ap}
+use mathlib.Core.Path.{ap}
 use Prim.Native.Nat.{ℕ}
 use lib.Bits.{and-mask}
 use Rattle.registers.specs.declared.Register.{Register}
