@@ -1,6 +1,7 @@
--- What each exit of `decode_illegal_instruction` and `decode_csr_access` knows is what the reading asks there. Assumes nothing.
+-- What each exit of `decode_illegal_instruction`, of `decode_csr_access` and of what they build an instruction by knows is what the reading asks there. Assumes nothing.
 use mathlib.Core.Path.{_≡_, refl, sym, ap, _∙_}
 use mathlib.Core.Bool.{Bool, true, false, cond}
+use mathlib.Core.Logic.{_⊎_, inl, inr, ⊎-elim}
 use Prim.Native.Nat.{ℕ, _+_, _*_, _/_, _%_, _^_, _<_}
 use native.Mathlib.Nat.{add-zero}
 use native.Mathlib.Omega.{arith}
@@ -19,6 +20,7 @@ use Rattle.decoder.specs.declared.CsrOp.{CsrOp}
 use Rattle.decoder.specs.declared.CsrOp.the-variants.{Write, Set, Clear}
 use Rattle.decoder.specs.declared.Fence.{Fence}
 use Rattle.decoder.specs.declared.Fence.the-variants.{Vma, Vvma, Gvma}
+use Rattle.decoder.specs.declared.IllegalInst.{IllegalInst}
 use Rattle.decoder.specs.declared.IllegalRead.the-variants.{Inst, Unknown, InvalidCsrOp}
 use Rattle.decoder.specs.Forms.{funct7}
 use Rattle.decoder.specs.System.{opCode, funct3, always, barredDef, reg, instOf, fenceOf, foundDef, readShape, accessAt, illegalDef}
@@ -47,23 +49,48 @@ module _ (w : ℕ) (h : w < 2 ^ 64) (k : ℕ) where
   fence-told : FenceForm w k → bitAnd w 18446744073676029824 ≡ k * 2 ^ 25
   fence-told f = fence-mask w h ∙ (λ j. f .above j * 2 ^ 25 + f .middle j * 2 ^ 7) ∙ add-zero (k * 2 ^ 25)
 
-pub fenced : (p : Profile) (w : ℕ) (f : Fence) → w < 2 ^ 64 → bitAnd w 127 ≡ 115 → bitAnd w 18446744073676029824 ≡ funct7 f * 2 ^ 25
-    → {a b : Register} → a ≡ reg (fld w 15 5) → b ≡ reg (fld w 20 5) → Inst (fenceOf f (a .0) (b .0)) ≡ illegalDef p w
+-- the keys of the fences' arm
+abbrev pub Fenced : ℕ → Type 0
+Fenced n = (n ≡ 301989888) ⊎ ((n ≡ 570425344) ⊎ (n ≡ 1644167168))
+
+pub which : (n : ℕ) → Fenced n → (f : Fence) × (n ≡ funct7 f * 2 ^ 25)
+which n = ⊎-elim (λ e. (Vma, e)) (⊎-elim (λ e. (Vvma, e)) (λ e. (Gvma, e)))
+
+pub fenced : (p : Profile) (w : ℕ) → w < 2 ^ 64 → bitAnd w 127 ≡ 115 → Fenced (bitAnd w 18446744073676029824)
+    → {i : IllegalInst} → ((f : Fence) → bitAnd w 18446744073676029824 ≡ funct7 f * 2 ^ 25 → i ≡ fenceOf f (fld w 15 5) (fld w 20 5)) → Inst i ≡ illegalDef p w
 unfolding illegalDef
-fenced p w f h e m q r =
-    (λ j. Inst (fenceOf f (q j .0) (r j .0))) ∙ sym (ap (readShape p) (at-fence w f (opcode w e) (told-fence w h (funct7 f) m)))
+fenced p w h e m k =
+    let f = which (bitAnd w 18446744073676029824) m in
+    ap Inst (k (f .0) (f .1)) ∙ sym (ap (readShape p) (at-fence w (f .0) (opcode w e) (told-fence w h (funct7 (f .0)) (f .1))))
 
 -- the word is none of WFI, MRET, SRET and the fences
-pub other : (p : Profile) (w : ℕ) → w < 2 ^ 64 → (w ≡ 0x10500073 → ⊥) → (w ≡ 0x30200073 → ⊥) → (w ≡ 0x10200073 → ⊥)
-    → ((f : Fence) → bitAnd w 18446744073676029824 ≡ funct7 f * 2 ^ 25 → ⊥) → readShape p (accessAt w) ≡ illegalDef p w
+pub other : (p : Profile) (w : ℕ) → w < 2 ^ 64 → ((w ≡ 0x10200073) ⊎ ((w ≡ 0x10500073) ⊎ (w ≡ 0x30200073)) → ⊥) → (Fenced (bitAnd w 18446744073676029824) → ⊥) → readShape p (accessAt w) ≡ illegalDef p w
 unfolding illegalDef
-other p w h a b c f =
-    ap (readShape p) (sym (past-wholes w (unfit-other w (record { not-wfi = a; not-mret = b; not-sret = c; not-fence = λ x q. f x (fence-told w h (funct7 x) q) }))))
+other p w h a f =
+    ap (readShape p) (sym (past-wholes w (unfit-other w (record { not-wfi = λ e. a (inr (inl e)); not-mret = λ e. a (inr (inr e)); not-sret = λ e. a (inl e); not-fence = λ x q. f (one-of x (fence-told w h (funct7 x) q)) }))))
+  where
+    one-of : (x : Fence) → bitAnd w 18446744073676029824 ≡ funct7 x * 2 ^ 25 → Fenced (bitAnd w 18446744073676029824)
+    one-of Vma q = inl q
+    one-of Vvma q = inr (inl q)
+    one-of Gvma q = inr (inr q)
 
+-- ---- fence_of
 pub each-fence : (P : Fence → Type 0) → P Vma → P Vvma → P Gvma → (f : Fence) → P f
 each-fence P a b c Vma = a
 each-fence P a b c Vvma = b
 each-fence P a b c Gvma = c
+
+abbrev by-funct7 : ℕ → Fence
+by-funct7 n = cond (eqb n (funct7 Vma * 2 ^ 25)) Vma (cond (eqb n (funct7 Vvma * 2 ^ 25)) Vvma Gvma)
+
+by-own : (f : Fence) → by-funct7 (funct7 f * 2 ^ 25) ≡ f
+by-own Vma = refl
+by-own Vvma = refl
+by-own Gvma = refl
+
+-- the fence of an arm is the only one with its bits
+pub only-fence : {n : ℕ} (f : Fence) → n ≡ funct7 f * 2 ^ 25 → (g : Fence) → n ≡ funct7 g * 2 ^ 25 → f ≡ g
+only-fence f e g q = sym (by-own f) ∙ ap by-funct7 (sym e ∙ q) ∙ by-own g
 
 -- ---- decode_csr_access
 pub op-zero : (p : Profile) (w : ℕ) → w % 2 ^ 7 ≡ 0x73 → bitAnd (bitAnd w 28672) 12288 ≡ 0 → Unknown ≡ readShape p (accessAt w)
@@ -95,6 +122,9 @@ module _ (p : Profile) (w : ℕ) {b : Bool} (f : Form w b) where
   six : (o : CsrOp) × (m : Bool) × (fld w 12 3 ≡ funct3 o m)
   six = one-of-six (fld w 12 3) (fld-lt w 12 3) (λ z. f .op (op-mask w ∙ ap (λ (x : ℕ). x * 2 ^ 12) z))
 
+  pub known-form : (o : CsrOp) × (m : Bool) × (bitAnd w 28672 ≡ funct3 o m * 2 ^ 12)
+  known-form = let o = six in (o .0, o .1, func3-mask w ∙ ap (λ (x : ℕ). x * 2 ^ 12) (o .2))
+
   -- what the reading is, by the operation, the test and the look-up
   read : (o : CsrOp) (m : Bool) → fld w 12 3 ≡ funct3 o m → {r : CsrLookup} → r ≡ decodeCsrDef p (bitAnd (w / 2 ^ 20) 4095)
       → cond b InvalidCsrOp (foundDef r o m (fld w 7 5) (fld w 15 5)) ≡ readShape p (accessAt w)
@@ -112,18 +142,29 @@ module _ (p : Profile) (w : ℕ) {b : Bool} (f : Form w b) where
     pub missing : r ≡ Missing → InvalidCsrOp ≡ readShape p (accessAt w)
     missing g = let o = six in (λ j. cond (sym t j) InvalidCsrOp (foundDef (sym g j) (o .0) (o .1) (fld w 7 5) (fld w 15 5))) ∙ read (o .0) (o .1) (o .2) k
 
-    pub found : (c : Csr) → r ≡ Found c → (o : CsrOp) (m : Bool) → bitAnd w 28672 ≡ funct3 o m * 2 ^ 12 → {d : Register} → d ≡ reg (fld w 7 5) → {x : ℕ} → x ≡ fld w 15 5
-        → Inst (instOf o m c (d .0) x) ≡ readShape p (accessAt w)
-    found c g o m e l s =
-        (λ j. Inst (instOf o m c (l j .0) (s j)))
-        ∙ (λ j. cond (sym t j) InvalidCsrOp (foundDef (sym g j) o m (fld w 7 5) (fld w 15 5))) ∙ read o m (f3 (fld w 12 3) (funct3 o m) (sym (func3-mask w) ∙ e)) k
-      where
-        f3 : (x y : ℕ) → x * 2 ^ 12 ≡ y * 2 ^ 12 → x ≡ y
-        f3 x y h = omega arith
+    pub found : (c : Csr) → r ≡ Found c → {d : Register} → d ≡ reg (fld w 7 5)
+        → {i : IllegalInst} → ((o : CsrOp) (m : Bool) → bitAnd w 28672 ≡ funct3 o m * 2 ^ 12 → i ≡ instOf o m c (d .0) (bitAnd (w / 2 ^ 15) 31)) → Inst i ≡ readShape p (accessAt w)
+    found c g l i =
+        let o = six in
+        ap Inst (i (o .0) (o .1) (func3-mask w ∙ ap (λ (x : ℕ). x * 2 ^ 12) (o .2)))
+        ∙ (λ j. Inst (instOf (o .0) (o .1) c (l j .0) (mask-field w 15 5 j)))
+        ∙ (λ j. cond (sym t j) InvalidCsrOp (foundDef (sym g j) (o .0) (o .1) (fld w 7 5) (fld w 15 5))) ∙ read (o .0) (o .1) (o .2) k
 
-  -- funct3 is one of the six
-  pub left : (bitAnd w 28672 ≡ 0x1000 → ⊥) → (bitAnd w 28672 ≡ 0x2000 → ⊥) → (bitAnd w 28672 ≡ 0x3000 → ⊥) → (bitAnd w 28672 ≡ 0x5000 → ⊥) → (bitAnd w 28672 ≡ 0x6000 → ⊥) → bitAnd w 28672 ≡ 0x7000
-  left g h i j k =
-      let o = six in
-      each-op (λ o m. bitAnd w 28672 ≡ funct3 o m * 2 ^ 12 → bitAnd w 28672 ≡ 0x7000) (λ q. absurd (g q)) (λ q. absurd (h q)) (λ q. absurd (i q)) (λ q. absurd (j q)) (λ q. absurd (k q)) (λ q. q) (o .0) (o .1)
-      (func3-mask w ∙ ap (λ (x : ℕ). x * 2 ^ 12) (o .2))
+-- ---- access_of
+abbrev by-funct3 : ℕ → CsrOp × Bool
+by-funct3 n = (cond (eqb (n / 2 ^ 12 % 4) 1) Write (cond (eqb (n / 2 ^ 12 % 4) 2) Set Clear), eqb (n / 2 ^ 14) 1)
+
+own-form : (o : CsrOp) (m : Bool) → by-funct3 (funct3 o m * 2 ^ 12) ≡ (o, m)
+own-form = each-op (λ o m. by-funct3 (funct3 o m * 2 ^ 12) ≡ (o, m)) refl refl refl refl refl refl
+
+-- the form of an arm is the only one with its bits
+module _ {n : ℕ} (c : Csr) (d : Register) {x y : ℕ} (e : y ≡ x) where
+  pub only-form : (o : CsrOp) (m : Bool) → n ≡ funct3 o m * 2 ^ 12 → (p : CsrOp) (q : Bool) → n ≡ funct3 p q * 2 ^ 12 → instOf o m c (d .0) y ≡ instOf p q c (d .0) x
+  only-form o m k p q l = (λ j. let f = (sym (own-form o m) ∙ ap by-funct3 (sym k ∙ l) ∙ own-form p q) j in instOf (f .0) (f .1) c (d .0) (e j))
+
+  -- and the last arm's is what is left of the six
+  pub last-form : (n ≡ 0x1000 → ⊥) → (n ≡ 0x2000 → ⊥) → (n ≡ 0x3000 → ⊥) → (n ≡ 0x5000 → ⊥) → (n ≡ 0x6000 → ⊥)
+      → (p : CsrOp) (q : Bool) → n ≡ funct3 p q * 2 ^ 12 → instOf Clear true c (d .0) y ≡ instOf p q c (d .0) x
+  last-form g h i j k =
+      each-op (λ p q. n ≡ funct3 p q * 2 ^ 12 → instOf Clear true c (d .0) y ≡ instOf p q c (d .0) x) (λ l. absurd (g l)) (λ l. absurd (h l)) (λ l. absurd (i l)) (λ l. absurd (j l)) (λ l. absurd (k l))
+      (λ _. ap (instOf Clear true c (d .0)) e)

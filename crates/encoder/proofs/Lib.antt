@@ -1,7 +1,2 @@
 pub mod SystemSteps
 pub mod System
-pub mod Funct3
-pub mod Writing
-pub mod Access
-pub mod Loads
-pub mod Stores

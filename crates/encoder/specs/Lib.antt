@@ -1,2 +1,1 @@
-pub mod LoadStore
 pub mod System

@@ -14,12 +14,13 @@ use Rattle.forms.proofs.Table.{no-form}
 use Rattle.forms.proofs.Tests.{on}
 use Rattle.decoder.specs.System.{Shape}
 use Rattle.encoder.specs.System.{shapeFor}
-use Rattle.encoder.specs.LoadStore.{encodeLoadDef, encodeStoreDef}
+use Rattle.accesses.specs.LoadStore.{encodeLoadDef, encodeStoreDef}
 use Rattle.octets.specs.declared.Emitted.{Emitted}
 use Rattle.octets.specs.Bytes.{emitted, emittedOut}
 use Rattle.records.specs.declared.Record.{Record}
 use Rattle.records.specs.declared.Record.the-variants.{System, Load, Store, Refusal, Hart}
-use Rattle.records.specs.Record.{pairs, shaped, ifWord, recordDef}
+use Rattle.refusals.specs.Refusals.{pairs}
+use Rattle.records.specs.Record.{shaped, ifWord, recordDef}
 use Rattle.records.proofs.Lengths.{at-most}
 use Rattle.records.proofs.Words.{system-word}
 use Rattle.traplog.specs.declared.RecordRead.{RecordRead}

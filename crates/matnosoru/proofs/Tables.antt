@@ -1,18 +1,16 @@
 -- The answer for two tables is one alone; and what its functions know of it. Assumes nothing.
 use mathlib.Core.Path.{_≡_, sym, ap, subst, _∙_}
 use mathlib.Core.Bool.{Bool, true, false, _&&_}
-use mathlib.Core.List.{List, [], _∷_}
-use Prim.Native.Nat.{ℕ, suc, _+_, _*_, _^_}
-use native.Mathlib.Omega.{arith}
+use mathlib.Core.List.{List}
+use Prim.Native.Nat.{ℕ, _*_, _^_}
 use borrow.Author.Tests.{eq-eqb, ne-eqb}
 use lib.Dec.{eqb}
-use lib.ListN.{length, getD}
+use lib.ListN.{length}
 use Rattle.tables.specs.declared.Difference.{Difference}
 use Rattle.tables.specs.declared.Table.{Table}
-use Rattle.tables.specs.Table.{FirstDifference}
+use Rattle.tables.specs.Table.{tableOf, FirstDifference}
 use Rattle.tables.proofs.Tables.{first-once}
-use Rattle.octets.specs.Bytes.{fetch}
-use Rattle.matnosoru.specs.Abi.{tableOf, place, Compared, TablesDiffer}
+use Rattle.matnosoru.specs.Abi.{place, Compared, TablesDiffer}
 
 -- the contract determines the answer
 pub compared-once : (b : Bool) (s t : List ℕ) (r q : ℕ) → Compared b s t r → Compared b s t q → r ≡ q
@@ -37,16 +35,3 @@ module _ (s t : List ℕ) (r : ℕ) where
     both-long f {a} {b} d p q h k =
         by-lengths true (rw (eq-eqb (length s) 80 e, eq-eqb (length t) 80 f))
         (d, (subst (λ (x : Table). FirstDifference x (tableOf t) d) p (subst (λ (x : Table). FirstDifference a x d) q h), k))
-
--- eight bytes from two past a place on
-pub eight : (s : List ℕ) (k : ℕ)
-    → getD s (k + 2) 0 ∷ getD s (k + 3) 0 ∷ getD s (k + 4) 0 ∷ getD s (k + 5) 0 ∷ getD s (k + 6) 0 ∷ getD s (k + 7) 0 ∷ getD s (k + 8) 0 ∷ getD s (k + 9) 0 ∷ [] ≡ fetch 8 (k + 2) s
-eight s k =
-    let at3 : k + 3 ≡ suc (k + 2) = omega arith in
-    let at4 : k + 4 ≡ suc (suc (k + 2)) = omega arith in
-    let at5 : k + 5 ≡ suc (suc (suc (k + 2))) = omega arith in
-    let at6 : k + 6 ≡ suc (suc (suc (suc (k + 2)))) = omega arith in
-    let at7 : k + 7 ≡ suc (suc (suc (suc (suc (k + 2))))) = omega arith in
-    let at8 : k + 8 ≡ suc (suc (suc (suc (suc (suc (k + 2)))))) = omega arith in
-    let at9 : k + 9 ≡ suc (suc (suc (suc (suc (suc (suc (k + 2))))))) = omega arith in
-    λ j. getD s (k + 2) 0 ∷ getD s (at3 j) 0 ∷ getD s (at4 j) 0 ∷ getD s (at5 j) 0 ∷ getD s (at6 j) 0 ∷ getD s (at7 j) 0 ∷ getD s (at8 j) 0 ∷ getD s (at9 j) 0 ∷ []

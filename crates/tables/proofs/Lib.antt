@@ -1,1 +1,2 @@
 pub mod Tables
+mod Eight

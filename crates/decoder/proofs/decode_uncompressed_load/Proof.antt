@@ -12,7 +12,7 @@ use Rattle.utils.proofs.Bits.{mask-field}
 use Rattle.utils.proofs.Digits.{fld-lt}
 use Rattle.decoder.specs.Funct3.{widthOf}
 use Rattle.decoder.specs.Load.{loadDef}
-use Rattle.decoder.proofs.Reading.{five, kept, loading, reads, foreign, reserved, same-load}
+use Rattle.decoder.proofs.Reading.{kept, loading, reads, foreign, reserved, same-load}
 use Rattle.decoder.proofs.decode_uncompressed_load.Statement.{statement}
 use Rattle.decoder.proofs.decode_uncompressed_load.Tie as tie
 
@@ -30,8 +30,8 @@ decode-uncompressed-load-spec =
     (λ c.
     let s = c .before .before .before .before .before in
     let w = s .before .args .raw in
-    let n = c .before .before .before .bits-to-int in
-    same-load false (five w 7 (c .before .from2 .ensures)) (five w 15 (c .before .before .from .ensures)) (kept (record { sfits = n .ok }) (n .ensures))
+    let n = c .before .bits-to-int in
+    same-load false (c .before .before .before .register-at .ensures) (c .before .before .register-at2 .ensures) (kept (record { sfits = n .ok }) (n .ensures))
     (c .width-of .ensures ∙ ap widthOf (mask-field w 12 3)) (ap (leb 4) (mask-field w 12 3))
     ∙ reads loading w 0 tt
     (simp (

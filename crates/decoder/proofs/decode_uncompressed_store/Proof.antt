@@ -21,7 +21,7 @@ use Rattle.forms.proofs.Shifts.{orRead, gathered}
 use Rattle.decoder.specs.Forms.{store}
 use Rattle.decoder.specs.Funct3.{widthOf}
 use Rattle.decoder.specs.Store.{storeDef}
-use Rattle.decoder.proofs.Reading.{five, kept, storing, reads, foreign, reserved, same-store}
+use Rattle.decoder.proofs.Reading.{kept, storing, reads, foreign, reserved, same-store}
 use Rattle.decoder.proofs.decode_uncompressed_store.Statement.{statement}
 use Rattle.decoder.proofs.decode_uncompressed_store.Tie as tie
 
@@ -55,8 +55,8 @@ decode-uncompressed-store-spec =
     (λ c.
     let s = c .before .before .before .before .before in
     let w = s .before .args .raw in
-    let n = c .before .before .before .bits-to-int in
-    same-store false (five w 20 (c .before .from2 .ensures)) (five w 15 (c .before .before .from .ensures))
+    let n = c .before .bits-to-int in
+    same-store false (c .before .before .register-at2 .ensures) (c .before .before .before .register-at .ensures)
     (kept (record { sfits = n .ok }) (n .ensures ∙ ap (signed 2048) (gathered-imm w))) (c .width-of .ensures ∙ two-bits w)
     ∙ reads storing w 0 tt
     (simp (

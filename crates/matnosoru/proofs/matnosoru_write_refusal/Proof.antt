@@ -1,15 +1,4 @@
 -- `matnosoru::matnosoru_write_refusal` meets its contract: the record's. Assumes nothing.
-use mathlib.Core.Path.{_≡_, ap, _∙_}
-use mathlib.Core.List.{List}
-use Prim.Native.Nat.{ℕ}
-use lib.ListN.{length}
-use denote.Ref.{now}
-use Rattle.profiles.specs.declared.Profile.{Profile}
-use Rattle.profiles.specs.Profile.{emptyProfile}
-use Rattle.forms.specs.Table.{Kind}
-use Rattle.records.specs.declared.Record.the-variants.{Refusal}
-use Rattle.records.specs.Record.{recordDef, writtenDef, writtenOut}
-use Rattle.matnosoru.specs.Abi.{length-or}
 use borrow.Author.Needs.{needs}
 use Rattle.matnosoru.proofs.matnosoru_write_refusal.Statement.{statement}
 use Rattle.matnosoru.proofs.matnosoru_write_refusal.Tie as tie
@@ -19,13 +8,5 @@ matnosoru-write-refusal-spec =
     tie.close
     (tie.spec
     (λ c κs. search needs)
-    (λ c κs. search needs)
-    (λ c κs. search needs)
     (λ c. search needs)
-    (λ c.
-    let a = c .before .before .before .before .before .before .before .args in
-    let w = c .before .before .before .write-record in
-    let e : recordDef (c .before .before .before .before .before .from-flags .result) (Refusal (a .reading) (a .number) (a .raw)) ≡ recordDef emptyProfile (Refusal (a .reading) (a .number) (a .raw)) = ap (λ (p : Profile). recordDef p (Refusal (a .reading) (a .number) (a .raw))) (c .before .before .before .before .before .from-flags .ensures) in (
-      c .length-of .ensures ∙ ap length-or (w .ensures .0 ∙ ap (λ (k : Kind (List ℕ)). writtenDef k (length (now (a .out)))) e),
-      w .ensures .1 ∙ ap (λ (k : Kind (List ℕ)). writtenOut k (now (a .out))) e,
-    )))
+    (λ c. c .before .before .put-record .ensures))
