@@ -4,4 +4,3 @@ pub mod SystemSteps
 pub mod Sentence
 pub mod Words01
 pub mod Accepts
-pub mod Reading

@@ -8,10 +8,10 @@ use borrow.Author.Tests.{eqb-true, eqb-false, eq-eqb, ne-eqb, not-true}
 use lib.Dec.{eqb}
 use Rattle.utils.specs.Field.{fld}
 use Rattle.utils.proofs.Digits.{fld-lt}
-use Rattle.profiles.specs.declared.CsrLookup.{CsrLookup}
-use Rattle.profiles.specs.declared.CsrLookup.the-variants.{Found, Missing}
+use Rattle.csrs.specs.declared.CsrLookup.{CsrLookup}
+use Rattle.csrs.specs.declared.CsrLookup.the-variants.{Found, Missing}
 use Rattle.profiles.specs.declared.Profile.{Profile}
-use Rattle.profiles.specs.Gates.{decodeCsrDef, isFound, available}
+use Rattle.csrs.specs.Gates.{decodeCsrDef, isFound, available}
 use Rattle.forms.proofs.Tests.{both, join}
 use Rattle.decoder.specs.declared.CsrOp.{CsrOp}
 use Rattle.decoder.specs.declared.CsrOp.the-variants.{Write, Set, Clear}

@@ -12,10 +12,10 @@ use Rattle.utils.proofs.Bits.{mask-field}
 use Rattle.utils.proofs.Digits.{fld-lt, same-high}
 use Rattle.registers.specs.declared.Csr.{Csr}
 use Rattle.registers.specs.declared.Register.{Register}
-use Rattle.profiles.specs.declared.CsrLookup.{CsrLookup}
-use Rattle.profiles.specs.declared.CsrLookup.the-variants.{Found, Missing}
+use Rattle.csrs.specs.declared.CsrLookup.{CsrLookup}
+use Rattle.csrs.specs.declared.CsrLookup.the-variants.{Found, Missing}
 use Rattle.profiles.specs.declared.Profile.{Profile}
-use Rattle.profiles.specs.Gates.{decodeCsrDef}
+use Rattle.csrs.specs.Gates.{decodeCsrDef}
 use Rattle.decoder.specs.declared.CsrOp.{CsrOp}
 use Rattle.decoder.specs.declared.CsrOp.the-variants.{Write, Set, Clear}
 use Rattle.decoder.specs.declared.Fence.{Fence}

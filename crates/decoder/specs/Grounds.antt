@@ -6,7 +6,7 @@ use mathlib.Core.Logic.{_⊎_}
 use Prim.Native.Nat.{ℕ, _%_, _^_}
 use Rattle.utils.specs.Field.{fld}
 use Rattle.profiles.specs.declared.Profile.{Profile}
-use Rattle.profiles.specs.Gates.{available}
+use Rattle.csrs.specs.Gates.{available}
 use Rattle.decoder.specs.System.{illegalDef, numberOf}
 
 -- low seven bits 0x73, bits 13:12 not zero

@@ -9,10 +9,10 @@ use Rattle.utils.specs.Field.{fld}
 use Rattle.utils.specs.declared.Code.the-variants.{Is}
 use Rattle.registers.specs.declared.Csr.{Csr}
 use Rattle.registers.specs.declared.Register.{Register}
-use Rattle.profiles.specs.declared.CsrLookup.{CsrLookup}
-use Rattle.profiles.specs.declared.CsrLookup.the-variants.{Found, Missing}
+use Rattle.csrs.specs.declared.CsrLookup.{CsrLookup}
+use Rattle.csrs.specs.declared.CsrLookup.the-variants.{Found, Missing}
 use Rattle.profiles.specs.declared.Profile.{Profile}
-use Rattle.profiles.specs.Gates.{decodeCsrDef}
+use Rattle.csrs.specs.Gates.{decodeCsrDef}
 use Rattle.forms.specs.Layout.{Operand, imm, rd, rs1, rs2, funct, csr, short}
 use Rattle.forms.specs.Table.{Kind, form, none}
 use Rattle.forms.specs.Speech.{Speech, readOf, bitOf}

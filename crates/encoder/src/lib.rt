@@ -5,11 +5,11 @@ ghost use Prim.Native.Nat.{_*_, _^_};
 ghost use Rattle.decoder.specs.System.{always, funct3};
 ghost use Rattle.encoder.specs.System.{addressFor, accessFor, fenceFor, writeShape, encodeIllegalDef};
 ghost use Rattle.decoder.specs.Forms.{funct7};
+use csrs::CsrLookup;
 use decoder::CsrOp;
 use decoder::Fence;
 use decoder::IllegalInst;
 use forms::Wrote;
-use profiles::CsrLookup;
 use profiles::Profile;
 use registers::Csr;
 use registers::Idx;
@@ -67,7 +67,7 @@ pub fn csr_address(ctx: Profile, op: CsrOp, csr: Csr, rd: Register, src: usize) 
         Idx::At(csr_id) => csr_id,
         Idx::Refused(_) => return Idx::Refused(7),
     };
-    match profiles::decode_csr(ctx, csr_id) {
+    match csrs::decode_csr(ctx, csr_id) {
         CsrLookup::Found(_) => {}
         CsrLookup::Missing => return Idx::Refused(7),
     }

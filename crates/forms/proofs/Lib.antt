@@ -1,6 +1,7 @@
 pub mod Tests
 pub mod Laws
 pub mod Table
+pub mod Accepts
 pub mod Shifts
 pub mod AnyReader
 pub mod Codes

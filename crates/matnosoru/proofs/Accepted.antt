@@ -14,7 +14,7 @@ use Rattle.forms.proofs.Table.{no-form}
 use Rattle.forms.proofs.Tests.{on}
 use Rattle.decoder.specs.System.{Shape}
 use Rattle.encoder.specs.System.{shapeFor}
-use Rattle.accesses.specs.LoadStore.{encodeLoadDef, encodeStoreDef}
+use Rattle.memory_encoder.specs.LoadStore.{encodeLoadDef, encodeStoreDef}
 use Rattle.octets.specs.declared.Emitted.{Emitted}
 use Rattle.octets.specs.Bytes.{emitted, emittedOut}
 use Rattle.records.specs.declared.Record.{Record}
@@ -27,9 +27,11 @@ use Rattle.traplog.specs.declared.RecordRead.{RecordRead}
 use Rattle.traplog.specs.declared.RecordRead.the-variants.{Got}
 use Rattle.traplog.specs.Read.{parse}
 use Rattle.traplog.proofs.Accepted.{passed}
-use Rattle.listing.specs.declared.Line.{Line}
-use Rattle.listing.specs.Lines.{worded, answerOf, recordLine, lineOf, textOf}
-use Rattle.listing.proofs.Fits.{text-back, record-fits}
+use Rattle.lines.specs.declared.Line.{Line}
+use Rattle.lines.specs.Lines.{lineOf, textOf}
+use Rattle.listing.specs.Listing.{worded, answerOf, recordLine}
+use Rattle.lines.proofs.Fits.{text-back}
+use Rattle.listing.proofs.Fits.{record-fits}
 use Rattle.matnosoru.specs.Abi.{Short, lineAnswer, lineDef, lineOut}
 
 -- ---- a record that can be written has an answer

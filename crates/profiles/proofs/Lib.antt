@@ -1,4 +1,1 @@
-pub mod Arms
-pub mod Laws
 pub mod Flags
-pub mod Size

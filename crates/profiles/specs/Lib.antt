@@ -1,3 +1,1 @@
 pub mod Profile
-pub mod Gates
-pub mod Count

@@ -1,7 +1,6 @@
 -- A profile's flags as a byte, and back: document 01's flag bits from 0 up.
-use mathlib.Core.Path.{_≡_}
 use mathlib.Core.Bool.{Bool, true, false}
-use Prim.Native.Nat.{ℕ, _+_, _/_, _%_, _^_, _≤_}
+use Prim.Native.Nat.{ℕ, _+_, _/_, _%_, _^_}
 use lib.Dec.{eqb}
 use Rattle.profiles.specs.declared.Profile.{Profile}
 
@@ -32,10 +31,6 @@ fullProfile = profileOf 0xFF 0xFFFFFFFFFFFFFFFF
 abbrev pub weightDef : Bool → ℕ → ℕ
 weightDef true n = n
 weightDef false n = 0
-
-pub record Weighed (on : Bool) (n r : ℕ) : Type 0 where
-  pub is : r ≡ weightDef on n
-  pub small : r ≤ n
 
 abbrev pub flagsOf : Profile → ℕ
 flagsOf p =

@@ -9,15 +9,12 @@ use native.Mathlib.Nat.{eq-or-lt-of-le, le-of-suc-le-suc, not-suc-le-zero}
 use native.Mathlib.Omega.{arith}
 use lib.Dec.{T, T-not, eqb, eqb-refl}
 use borrow.Author.Tests.{eqb-true, eq-eqb, ne-eqb}
+use Rattle.utils.proofs.Arms.{both}
 use Rattle.registers.specs.declared.Idx.{Idx}
 use Rattle.registers.specs.declared.Idx.the-variants.{At, Refused}
 use Rattle.registers.specs.Find.{Spot, is, nothing, here, find, downFrom, join}
 
 -- ---- tests
-pub both : (a b : Bool) → T (a && b) → T a × T b
-both true b t = (tt, t)
-both false b t = absurd t
-
 clash : (b : Bool) → T b → b ≡ false → ⊥
 clash true t e = let z : _≡_ {A = ℕ} 0 1 = cc in omega arith
 clash false t e = t
@@ -41,6 +38,10 @@ left ys (later m) = later (left ys m)
 pub right : {X : Type 0} {x : X} (xs : List X) {ys : List X} → Mem x ys → Mem x (xs ++ ys)
 right [] m = m
 right (y ∷ xs) m = later (right xs m)
+
+pub mapped : {X Y : Type 0} (f : X → Y) {x : X} {xs : List X} → Mem x xs → Mem (f x) (map f xs)
+mapped f first = first
+mapped f (later m) = later (mapped f m)
 
 -- of a family that a number below n counts
 pub within : {X : Type 0} (f : ℕ → X) (n k : ℕ) → k < n → Mem (f k) (map f (downFrom n))

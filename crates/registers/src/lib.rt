@@ -2,6 +2,7 @@
 ghost use mathlib.Core.Path.{_≡_};
 ghost use Prim.Native.Nat.{_+_, _%_, _^_, _<_};
 ghost use lib.Dec.{leb};
+ghost use Rattle.utils.specs.Field.{fld};
 ghost use Rattle.registers.specs.Address.{atIf, idxDef};
 ghost use Rattle.registers.specs.Masks.{masksOf};
 
@@ -17,6 +18,16 @@ impl Register {
     {
         Register(value & 0b11111)
     }
+}
+
+// The register whose number the five bits of a word from bit `k` up are; past the word's 64 bits they are 0.
+pub fn register_at(raw: usize, k: usize) -> Register
+    ensures { λ r. ⌜ r ≡ record { 0 = fld raw k 5 } ⌝ }
+{
+    if 64 <= k {
+        return Register(0);
+    }
+    Register::from((raw >> k) & 0b11111)
 }
 
 // A RISC-V Control and Status Register (CSR).

@@ -2,8 +2,8 @@
 use mathlib.Core.Path.{sym, ap, _∙_}
 use mathlib.Core.Bool.{cond}
 use Rattle.profiles.specs.declared.Profile.{Profile}
-use Rattle.profiles.specs.declared.CsrLookup.{CsrLookup}
-use Rattle.profiles.specs.Gates.{isFound, available}
+use Rattle.csrs.specs.declared.CsrLookup.{CsrLookup}
+use Rattle.csrs.specs.Gates.{isFound, available}
 use borrow.Author.Needs.{needs}
 use Rattle.matnosoru.proofs.matnosoru_csr.Statement.{statement}
 use Rattle.matnosoru.proofs.matnosoru_csr.Tie as tie

@@ -1,6 +1,6 @@
 -- `matnosoru::matnosoru_csr_count` meets its contract: the count is that of the profile. Assumes nothing.
 use mathlib.Core.Path.{ap, _∙_}
-use Rattle.profiles.specs.Count.{countDef}
+use Rattle.csrs.specs.Count.{countDef}
 use borrow.Author.Needs.{needs}
 use Rattle.matnosoru.proofs.matnosoru_csr_count.Statement.{statement}
 use Rattle.matnosoru.proofs.matnosoru_csr_count.Tie as tie

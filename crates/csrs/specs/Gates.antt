@@ -1,0 +1,113 @@
+-- Which CSRs a profile makes available: document 01's table of gates, with the addresses of registers' `idxDef`. Where a
+-- register is does not depend on the profile.
+use mathlib.Core.Bool.{Bool, true, false}
+use mathlib.Core.List.{List, [], _∷_, _++_, map}
+use Prim.Native.Nat.{ℕ, _+_, _*_}
+use Rattle.registers.specs.declared.Csr.{Csr}
+use Rattle.registers.specs.declared.Csr.the-variants.{Mhartid, Mstatus, Misa, Mie, Mtvec, Mscratch, Mip, Mvendorid, Marchid, Mimpid, Pmpcfg, Pmpaddr, Mcycle, Minstret, Cycle, Time, Instret, Mhpmcounter, Mcountinhibit, Mhpmevent, Mcounteren, Menvcfg, Mseccfg, Mconfigptr, Medeleg, Mideleg, Mtinst, Mtval2, Tselect, Tdata1, Tdata2, Tdata3, Mcontext, Dcsr, Dpc, Dscratch0, Dscratch1, Mepc, Mcause, Mtval, Sstatus, Sie, Stvec, Scounteren, Senvcfg, Sscratch, Sepc, Scause, Stval, Sip, Satp, Scontext, Stimecmp, Hstatus, Hedeleg, Hideleg, Hvip, Hip, Hie, Hgeip, Hgeie, Henvcfg, Hcounteren, Htimedelta, Htval, Htinst, Hgatp, Vsstatus, Vsie, Vstvec, Vsscratch, Vsepc, Vscause, Vstval, Vsip, Vsatp, Vstart, Vxsat, Vxrm, Vcsr, Vl, Vtype, Vlenb, Seed, Custom}
+use Rattle.registers.specs.declared.Idx.{Idx}
+use Rattle.registers.specs.Find.{Spot, is, nothing, find, downFrom, join}
+use Rattle.registers.specs.Address.{idxDef}
+use Rattle.profiles.specs.declared.Profile.{Profile}
+use Rattle.csrs.specs.declared.Gate.{Gate}
+use Rattle.csrs.specs.declared.Gate.the-variants.{Always, Zicntr, Zihpm, Tee, Smode, Hmode, Sstc, Vector, Crypto, MaskBit}
+use Rattle.csrs.specs.declared.Slot.{Slot}
+use Rattle.csrs.specs.declared.Slot.the-variants.{Holds, Empty}
+use Rattle.csrs.specs.declared.CsrLookup.{CsrLookup}
+use Rattle.csrs.specs.declared.CsrLookup.the-variants.{Found, Missing}
+use Rattle.profiles.specs.Profile.{bit}
+
+abbrev pub allowsDef : Profile → Gate → Bool
+allowsDef p Always = true
+allowsDef p Zicntr = p .«has_zicntr»
+allowsDef p Zihpm = p .«has_zihpm_extension»
+allowsDef p Tee = p .«has_tee_extension»
+allowsDef p Smode = p .«has_s_extension»
+allowsDef p Hmode = p .«has_h_extension»
+allowsDef p Sstc = p .«is_sstc_enabled»
+allowsDef p Vector = p .«has_v_extension»
+allowsDef p Crypto = p .«has_crypto_extension»
+allowsDef p (MaskBit k) = bit (p .custom) k
+
+-- a line of the table: a gate and its registers, family by family
+pub data Line : Type 0 where
+  line : Gate → List (List Csr) → Line
+
+abbrev pub lines : List Line
+lines =
+    line Always
+    ((Mstatus ∷ Misa ∷ Mie ∷ Mtvec ∷ Mscratch ∷ Mip ∷ [])
+    ∷ (Mhartid ∷ Mvendorid ∷ Marchid ∷ Mimpid ∷ [])
+    ∷ map (λ k. Pmpcfg (2 * k)) (downFrom 8)
+    ∷ map Pmpaddr (downFrom 64)
+    ∷ (Mcountinhibit ∷ Mcounteren ∷ Menvcfg ∷ Mconfigptr ∷ Tselect ∷ Mcause ∷ Mepc ∷ Mtval ∷ [])
+    ∷ [])
+    ∷ line Zicntr ((Mcycle ∷ Minstret ∷ Cycle ∷ Time ∷ Instret ∷ []) ∷ [])
+    ∷ line Zihpm (map Mhpmcounter (downFrom 29) ∷ map Mhpmevent (downFrom 29) ∷ [])
+    ∷ line Tee ((Mseccfg ∷ []) ∷ [])
+    ∷ line Smode
+    ((Medeleg ∷ Mideleg ∷ [])
+    ∷ (Sstatus ∷ Sie ∷ Stvec ∷ Scounteren ∷ Senvcfg ∷ Sscratch ∷ Sepc ∷ Scause ∷ Stval ∷ Sip ∷ [])
+    ∷ (Satp ∷ Scontext ∷ [])
+    ∷ [])
+    ∷ line Sstc ((Stimecmp ∷ []) ∷ [])
+    ∷ line Hmode
+    ((Mtinst ∷ Mtval2 ∷ [])
+    ∷ (Hstatus ∷ Hedeleg ∷ Hideleg ∷ Hvip ∷ Hip ∷ Hie ∷ Hgeip ∷ Hgeie ∷ Henvcfg ∷ Hcounteren ∷ Htimedelta ∷ Htval ∷ Htinst ∷ Hgatp ∷ [])
+    ∷ (Vsstatus ∷ Vsie ∷ Vstvec ∷ Vsscratch ∷ Vsepc ∷ Vscause ∷ Vstval ∷ Vsip ∷ Vsatp ∷ [])
+    ∷ [])
+    ∷ line Vector ((Vstart ∷ Vxsat ∷ Vxrm ∷ Vcsr ∷ Vl ∷ Vtype ∷ Vlenb ∷ []) ∷ [])
+    ∷ line Crypto ((Seed ∷ []) ∷ [])
+    ∷ []
+
+pub record Row : Type 0 where
+  pub gate : Gate
+  pub csr : Csr
+
+abbrev pub under : Gate → Csr → Row
+under g c = record { gate = g; csr = c }
+
+abbrev pub rowsOf : Line → List Row
+rowsOf (line g cs) = map (under g) (join cs)
+
+-- and a row for each bit of the custom mask
+abbrev pub customRow : ℕ → Row
+customRow k = under (MaskBit k) (Custom (0x7C0 + k))
+
+abbrev pub rows : List Row
+rows = join (map rowsOf lines) ++ map customRow (downFrom 64)
+
+-- the row of the register that has this address
+abbrev pub rowIdx : Row → Idx
+rowIdx r = idxDef (r .csr)
+
+unfoldable pub spotDef : ℕ → Spot Row
+spotDef a = find rowIdx a rows
+
+-- as the code's look-up answers it
+abbrev pub slotOf : Spot Row → Slot
+slotOf (is r) = Holds (r .gate) (r .csr)
+slotOf nothing = Empty
+
+-- the answer there, under a profile
+abbrev pub gatedDef : Bool → Csr → CsrLookup
+gatedDef true c = Found c
+gatedDef false c = Missing
+
+abbrev pub answer : Profile → Spot Row → CsrLookup
+answer p (is r) = gatedDef (allowsDef p (r .gate)) (r .csr)
+answer p nothing = Missing
+
+unfoldable pub decodeCsrDef : Profile → ℕ → CsrLookup
+decodeCsrDef p a = answer p (spotDef a)
+
+abbrev pub isFound : CsrLookup → Bool
+isFound (Found c) = true
+isFound Missing = false
+
+unfoldable pub available : Profile → ℕ → Bool
+available p a = isFound (decodeCsrDef p a)
+
+-- the registers that have an address and no row
+abbrev pub nevers : List Csr
+nevers = Tdata1 ∷ Tdata2 ∷ Tdata3 ∷ Mcontext ∷ Dcsr ∷ Dpc ∷ Dscratch0 ∷ Dscratch1 ∷ []

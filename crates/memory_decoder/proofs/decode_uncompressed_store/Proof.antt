@@ -1,0 +1,65 @@
+-- `memory_decoder::decode_uncompressed_store` meets its contract: the tests are those of the 32-bit line, and the immediate is gathered. Assumes nothing.
+use mathlib.Core.Path.{_≡_, refl, sym, ap, _∙_}
+use mathlib.Core.Bool.{false}
+use mathlib.Core.List.{[], _∷_}
+use Prim.Native.Nat.{ℕ, _+_, _*_, _/_, _%_, _^_, _≤_}
+use native.Mathlib.Nat.{mod-eq-of-lt, div-one}
+use native.Mathlib.Omega.{arith}
+use borrow.Author.Needs.{needs}
+use borrow.Author.Tests.{eq-eqb}
+use lib.Bits.{bitAnd, and-mask}
+use lib.ListN.{getD}
+use lib.Pow.{mod-mod-pow}
+use Rattle.utils.specs.Field.{fld}
+use Rattle.utils.specs.Signed.{signed}
+use Rattle.utils.specs.declared.Width.the-variants.{Byte, Byte2, Byte4, Byte8}
+use Rattle.utils.proofs.Bits.{mask-field}
+use Rattle.utils.proofs.Digits.{halves}
+use Rattle.forms.specs.Layout.{imm, pieces, read}
+use Rattle.forms.proofs.Laws.{read-lt}
+use Rattle.forms.proofs.Shifts.{orRead, gathered}
+use Rattle.memory_decoder.specs.Forms.{store}
+use Rattle.memory_decoder.specs.Funct3.{widthOf}
+use Rattle.memory_decoder.specs.Store.{storeDef}
+use Rattle.memory_decoder.proofs.Reading.{kept, storing, reads, foreign, reserved, same-store}
+use Rattle.memory_decoder.proofs.decode_uncompressed_store.Statement.{statement}
+use Rattle.memory_decoder.proofs.decode_uncompressed_store.Tie as tie
+
+module _ (w : ℕ) where
+  gathered-imm : fld (orRead w (pieces store imm)) 0 12 ≡ read store w imm
+  gathered-imm = ap (λ (x : ℕ). fld x 0 12) (gathered store refl imm refl w) ∙ ap (λ (x : ℕ). x % 2 ^ 12) (div-one _) ∙ mod-eq-of-lt (read-lt store refl w imm)
+
+  -- funct3's low two bits are the operand, and its bit 2 is 0
+  two-bits : widthOf (bitAnd (w / 2 ^ 12) 7) ≡ widthOf (fld w 12 2)
+  two-bits =
+      ap (λ (x : ℕ). getD (Byte ∷ Byte2 ∷ Byte4 ∷ Byte8 ∷ []) x Byte)
+      (ap (λ (x : ℕ). x % 2 ^ 2) (mask-field w 12 3) ∙ mod-mod-pow (w / 2 ^ 12) 1 2 ∙ sym (mod-mod-pow (w / 2 ^ 12) 0 2))
+
+  top-bit : bitAnd (w / 2 ^ 12) 7 ≤ 3 → fld w 14 1 ≡ 0
+  top-bit h = go (fld w 14 1) (fld w 12 2) (mask-field w 12 3 ∙ halves w 12 1 2)
+    where
+      go : (x y : ℕ) → bitAnd (w / 2 ^ 12) 7 ≡ x * 2 ^ 2 + y → x ≡ 0
+      go x y e = omega arith
+
+pub decode-uncompressed-store-spec : {M : Type 1} → statement M
+unfolding storeDef
+decode-uncompressed-store-spec =
+    tie.close
+    (tie.spec
+    (λ c. foreign storing (c .before .args .raw) (c .before .pre) (c .if1 .taken))
+    (λ c. reserved storing (c .before .before .args .raw) (c .before .if1 .left) (λ f. omega (arith, mask-field (c .before .before .args .raw) 12 3, c .if2 .taken)))
+    (λ c κs. search needs)
+    (λ c κs. search needs)
+    (λ c κs. search needs)
+    (λ c κs. search needs)
+    (λ c.
+    let s = c .before .before .before .before .before in
+    let w = s .before .args .raw in
+    let n = c .before .bits-to-int in
+    same-store false (c .before .before .register-at2 .ensures) (c .before .before .before .register-at .ensures)
+    (kept (record { sfits = n .ok }) (n .ensures ∙ ap (signed 2048) (gathered-imm w))) (c .width-of .ensures ∙ two-bits w)
+    ∙ reads storing w 0 tt
+    (simp (
+      eq-eqb (w % 2 ^ 7) 0x23 (sym (and-mask w 7) ∙ s .if1 .left),
+      eq-eqb (fld w 14 1) 0 (top-bit w (c .before .before .before .before .if2 .left)),
+    ))))

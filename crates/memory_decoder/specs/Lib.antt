@@ -1,0 +1,4 @@
+pub mod Forms
+pub mod Funct3
+pub mod Load
+pub mod Store

@@ -1,0 +1,57 @@
+-- What a word is as a load, by the table of loads: document 01's "Reading loads and stores".
+use Prim.Native.Nat.{ℕ, _%_, _^_}
+use mathlib.Core.Bool.{Bool, _&&_, cond}
+use lib.Dec.{eqb, leb}
+use lib.IntN.{ℤ}
+use Rattle.utils.specs.Signed.{signed, twos, codeDef}
+use Rattle.utils.specs.declared.Width.{Width}
+use Rattle.profiles.specs.declared.Profile.{Profile}
+use Rattle.forms.specs.Layout.{Operand, imm, rd, rs1, rs2, funct, csr, short}
+use Rattle.forms.specs.Table.{Kind, form, none}
+use Rattle.forms.specs.Speech.{Speech, readOf, bitOf}
+use Rattle.memory_decoder.specs.Forms.{loads}
+use Rattle.memory_decoder.specs.Funct3.{widthOf, funct3Of}
+use Rattle.memory_decoder.specs.declared.LoadInstr.{LoadInstr}
+use Rattle.memory_decoder.specs.declared.LoadRead.{LoadRead}
+use Rattle.memory_decoder.specs.declared.LoadRead.the-variants.{Load, Refused}
+
+-- document 01's number for each answer; 0 is no refusal
+abbrev pub numberOf : LoadRead → ℕ
+numberOf (Load i) = 0
+numberOf (Refused n) = n
+
+abbrev pub mk : ℕ → ℕ → ℤ → Width → Bool → Bool → LoadInstr
+mk d b n len c u = record { rd = record { 0 = d }; rs1 = record { 0 = b }; imm = n; len = len; «is_compressed» = c; «is_unsigned» = u }
+
+-- the load of a line's operands: the immediate is signed, in twelve bits
+abbrev pub made : (Operand → ℕ) → LoadInstr
+made env = mk (env rd) (env rs1) (signed 2048 (env imm)) (widthOf (env funct)) (eqb (env short) 1) (leb 4 (env funct))
+
+-- and back
+abbrev pub operandsOf : LoadInstr → Operand → ℕ
+operandsOf i imm = twos 2048 (i .imm)
+operandsOf i rd = i .rd .0
+operandsOf i rs1 = i .rs1 .0
+operandsOf i rs2 = 0
+operandsOf i funct = funct3Of (i .len) (i .«is_unsigned»)
+operandsOf i csr = 0
+operandsOf i short = bitOf (i .«is_compressed»)
+
+-- a word that is no line: 5 where its low two bits are 10, 4 where its opcode is the loads', else 3
+abbrev pub why : ℕ → ℕ
+why w = cond (eqb (w % 2 ^ 2) 0b10) 5 (cond (eqb (w % 2 ^ 7) 0x03) 4 3)
+
+-- a load that is none: 6 where a register is above 31, else 9
+abbrev pub whyNot : LoadInstr → ℕ
+whyNot i = cond (leb (i .rd .0) 31 && leb (i .rs1 .0) 31) 9 6
+
+abbrev pub speech : Speech LoadInstr
+speech = record { make = made; ops = operandsOf; code = λ i. codeDef 2048 (i .imm); is-short = λ i. i .«is_compressed»; why = why; why-not = whyNot }
+
+-- ---- the reading; it asks nothing of the profile
+abbrev pub answered : Kind LoadInstr → LoadRead
+answered (form i) = Load i
+answered (none n) = Refused n
+
+unfoldable pub loadDef : Profile → ℕ → LoadRead
+loadDef p w = answered (readOf loads speech w)

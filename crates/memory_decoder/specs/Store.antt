@@ -1,0 +1,57 @@
+-- What a word is as a store, by the table of stores: document 01's "Reading loads and stores".
+use Prim.Native.Nat.{ℕ, _%_, _^_}
+use mathlib.Core.Bool.{Bool, _&&_, cond}
+use lib.Dec.{eqb, leb}
+use lib.IntN.{ℤ}
+use Rattle.utils.specs.Signed.{signed, twos, codeDef}
+use Rattle.utils.specs.declared.Width.{Width}
+use Rattle.profiles.specs.declared.Profile.{Profile}
+use Rattle.forms.specs.Layout.{Operand, imm, rd, rs1, rs2, funct, csr, short}
+use Rattle.forms.specs.Table.{Kind, form, none}
+use Rattle.forms.specs.Speech.{Speech, readOf, bitOf}
+use Rattle.memory_decoder.specs.Forms.{stores}
+use Rattle.memory_decoder.specs.Funct3.{widthOf, sizeOf}
+use Rattle.memory_decoder.specs.declared.StoreInstr.{StoreInstr}
+use Rattle.memory_decoder.specs.declared.StoreRead.{StoreRead}
+use Rattle.memory_decoder.specs.declared.StoreRead.the-variants.{Store, Refused}
+
+-- document 01's number for each answer; 0 is no refusal
+abbrev pub numberOf : StoreRead → ℕ
+numberOf (Store i) = 0
+numberOf (Refused n) = n
+
+abbrev pub mk : ℕ → ℕ → ℤ → Width → Bool → StoreInstr
+mk s b n len c = record { rs2 = record { 0 = s }; rs1 = record { 0 = b }; imm = n; len = len; «is_compressed» = c }
+
+-- the store of a line's operands: the immediate is signed, in twelve bits
+abbrev pub made : (Operand → ℕ) → StoreInstr
+made env = mk (env rs2) (env rs1) (signed 2048 (env imm)) (widthOf (env funct)) (eqb (env short) 1)
+
+-- and back
+abbrev pub operandsOf : StoreInstr → Operand → ℕ
+operandsOf i imm = twos 2048 (i .imm)
+operandsOf i rd = 0
+operandsOf i rs1 = i .rs1 .0
+operandsOf i rs2 = i .rs2 .0
+operandsOf i funct = sizeOf (i .len)
+operandsOf i csr = 0
+operandsOf i short = bitOf (i .«is_compressed»)
+
+-- a word that is no line: 5 where its low two bits are 10, 4 where its opcode is the stores', else 3
+abbrev pub why : ℕ → ℕ
+why w = cond (eqb (w % 2 ^ 2) 0b10) 5 (cond (eqb (w % 2 ^ 7) 0x23) 4 3)
+
+-- a store that is none: 6 where a register is above 31, else 9
+abbrev pub whyNot : StoreInstr → ℕ
+whyNot i = cond (leb (i .rs2 .0) 31 && leb (i .rs1 .0) 31) 9 6
+
+abbrev pub speech : Speech StoreInstr
+speech = record { make = made; ops = operandsOf; code = λ i. codeDef 2048 (i .imm); is-short = λ i. i .«is_compressed»; why = why; why-not = whyNot }
+
+-- ---- the reading; it asks nothing of the profile
+abbrev pub answered : Kind StoreInstr → StoreRead
+answered (form i) = Store i
+answered (none n) = Refused n
+
+unfoldable pub storeDef : Profile → ℕ → StoreRead
+storeDef p w = answered (readOf stores speech w)

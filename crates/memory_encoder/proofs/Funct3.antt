@@ -1,0 +1,58 @@
+-- funct3 and the width and sign that it stands for, both ways. Assumes nothing.
+use mathlib.Core.Path.{_≡_, refl}
+use mathlib.Core.Bool.{Bool, true, false}
+use mathlib.Core.List.{[], _∷_}
+use Prim.Native.Nat.{ℕ, zero, suc, _%_, _^_, _<_}
+use native.Mathlib.Nat.{mod-lt}
+use native.Mathlib.Omega.{arith}
+use borrow.Author.Tests.{leb-true, leb-false}
+use lib.Dec.{leb}
+use lib.ListN.{getD}
+use lib.Pow.{pow-pos}
+use Rattle.utils.specs.declared.Width.{Width}
+use Rattle.utils.specs.declared.Width.the-variants.{Byte, Byte2, Byte4, Byte8}
+use Rattle.utils.proofs.Signed.{by-test}
+use Rattle.memory_decoder.specs.Funct3.{widthOf, sizeOf, funct3Of}
+
+-- the width says funct3's low two bits
+pub size-low : (f : ℕ) → sizeOf (widthOf f) ≡ f % 2 ^ 2
+size-low f = go (f % 2 ^ 2) (mod-lt f (pow-pos 2))
+  where
+    go : (n : ℕ) → n < 4 → sizeOf (getD (Byte ∷ Byte2 ∷ Byte4 ∷ Byte8 ∷ []) n Byte) ≡ n
+    go zero h = refl
+    go (suc zero) h = refl
+    go (suc (suc zero)) h = refl
+    go (suc (suc (suc zero))) h = refl
+    go (suc (suc (suc (suc n)))) h = absurd (omega arith)
+
+pub funct3-back : (f : ℕ) → f < 2 ^ 3 → funct3Of (widthOf f) (leb 4 f) ≡ f
+funct3-back f h =
+    by-test (leb 4 f)
+    (λ e. simp (e, size-low) (omega (arith, leb-true 4 f e)))
+    (λ e. simp (e, size-low) (omega (arith, leb-false 4 f e)))
+
+pub size-lt : (len : Width) → sizeOf len < 2 ^ 2
+size-lt Byte = omega arith
+size-lt Byte2 = omega arith
+size-lt Byte4 = omega arith
+size-lt Byte8 = omega arith
+
+pub funct3-lt : (len : Width) (u : Bool) → funct3Of len u < 2 ^ 3
+funct3-lt len false = omega (arith, size-lt len)
+funct3-lt len true = omega (arith, size-lt len)
+
+pub size-forth : (len : Width) → widthOf (sizeOf len) ≡ len
+size-forth Byte = refl
+size-forth Byte2 = refl
+size-forth Byte4 = refl
+size-forth Byte8 = refl
+
+pub funct3-forth : (len : Width) (u : Bool) → (widthOf (funct3Of len u) ≡ len) × (leb 4 (funct3Of len u) ≡ u)
+funct3-forth Byte false = (refl, refl)
+funct3-forth Byte true = (refl, refl)
+funct3-forth Byte2 false = (refl, refl)
+funct3-forth Byte2 true = (refl, refl)
+funct3-forth Byte4 false = (refl, refl)
+funct3-forth Byte4 true = (refl, refl)
+funct3-forth Byte8 false = (refl, refl)
+funct3-forth Byte8 true = (refl, refl)

@@ -1,0 +1,16 @@
+-- `memory_encoder::compressed_word` meets its contract: what it puts together is the word of C.LW's line, under the funct3 given. Assumes nothing.
+use mathlib.Core.Path.{refl}
+use borrow.Author.Tests.{lt-ltb}
+use Rattle.forms.proofs.Shifts.{put-together}
+use Rattle.memory_decoder.specs.Forms.{c-lw}
+use Rattle.memory_encoder.specs.LoadStore.{parts, under}
+use Rattle.memory_encoder.proofs.compressed_word.Statement.{statement}
+use Rattle.memory_encoder.proofs.compressed_word.Tie as tie
+
+pub compressed-word-spec : {M : Type 1} → statement M
+compressed-word-spec =
+    tie.close
+    (tie.spec
+    (λ c.
+    let f = c .args .func3 in
+    put-together (under f c-lw) (simp (lt-ltb f 8 (c .pre))) refl (parts (c .args .reg) (c .args .base) f (c .args .imm))))

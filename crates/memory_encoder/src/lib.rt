@@ -1,0 +1,194 @@
+// Loads and stores as words: the way back from the load and store readings of the crate `memory_decoder`. An instruction may hold any
+// numbers; what no word stands for is refused by document 01's numbers.
+ghost use mathlib.Core.Path.{_≡_};
+ghost use Prim.Native.Nat.{_≤_, _<_};
+ghost use mathlib.Core.Bool.{true, false};
+ghost use Rattle.utils.specs.Signed.{codeDef};
+ghost use Rattle.forms.specs.Layout.{build};
+ghost use Rattle.forms.specs.Speech.{writeOf};
+ghost use Rattle.memory_decoder.specs.Forms.{load, store, c-lw, c-ld};
+ghost use Rattle.memory_decoder.specs.Funct3.{sizeOf, funct3Of};
+ghost use Rattle.memory_decoder.specs.Load.{speech, mk};
+ghost use Rattle.memory_encoder.specs.LoadStore.{encodeLoadDef, encodeStoreDef, parts, under, shorts, stepped};
+use forms::Wrote;
+use memory_decoder::LoadInstr;
+use memory_decoder::StoreInstr;
+use profiles::Profile;
+use utils::Code;
+use utils::Width;
+
+// A load as a word, or the refusal's number: 6, 9 and 10 are tested in this order.
+pub fn encode_load(ctx: Profile, load: LoadInstr) -> Wrote
+    ensures { λ r. ⌜ r ≡ encodeLoadDef ctx load ⌝ }
+{
+    let rd = load.rd.0;
+    let rs1 = load.rs1.0;
+    let imm = load.imm;
+    let len = load.len;
+    if 31 < rd {
+        return Wrote::Refused(6);
+    }
+    if 31 < rs1 {
+        return Wrote::Refused(6);
+    }
+    if load.is_compressed {
+        if load.is_unsigned {
+            return Wrote::Refused(9);
+        }
+        return encode_compressed(0b010, rd, rs1, imm, len);
+    }
+    let func3 = load_func3(len, load.is_unsigned);
+    // There is no unsigned load of 64 bits
+    if func3 == 0b111 {
+        return Wrote::Refused(9);
+    }
+    match utils::code_of(imm, HALF) {
+        Code::Is(code) => Wrote::Word(load_word(rd, rs1, func3, code)),
+        Code::Out => Wrote::Refused(10),
+    }
+}
+
+// A store as a word, or the refusal's number, tested in the same order.
+pub fn encode_store(ctx: Profile, store: StoreInstr) -> Wrote
+    ensures { λ r. ⌜ r ≡ encodeStoreDef ctx store ⌝ }
+{
+    let rs2 = store.rs2.0;
+    let rs1 = store.rs1.0;
+    let imm = store.imm;
+    let len = store.len;
+    if 31 < rs2 {
+        return Wrote::Refused(6);
+    }
+    if 31 < rs1 {
+        return Wrote::Refused(6);
+    }
+    if store.is_compressed {
+        return encode_compressed(0b110, rs2, rs1, imm, len);
+    }
+    let func3 = size_of(len);
+    match utils::code_of(imm, HALF) {
+        Code::Is(code) => Wrote::Word(store_word(rs2, rs1, func3, code)),
+        Code::Out => Wrote::Refused(10),
+    }
+}
+
+// Half of the codes of a 12-bit immediate: it is -2048 to 2047.
+const HALF: u32 = 2048;
+
+// A compressed load or store of the register `reg`: `func3` is that of the 32-bit form, and the 64-bit form has the next. Both
+// registers are x8 to x15.
+fn encode_compressed(func3: usize, reg: usize, base: usize, imm: isize, len: Width) -> Wrote
+    requires { ⌜ (func3 < 7) × ((reg ≤ 31) × (base ≤ 31)) ⌝ }
+    ensures { λ r. ⌜ r ≡ writeOf (shorts func3) speech (mk reg base imm len true false) ⌝ }
+{
+    if reg / 8 != 1 {
+        return Wrote::Refused(9);
+    }
+    if base / 8 != 1 {
+        return Wrote::Refused(9);
+    }
+    match len {
+        Width::Byte4 => match offset(imm, 4, 128) {
+            Code::Is(code) => Wrote::Word(compressed_word(func3, reg, base, code)),
+            Code::Out => Wrote::Refused(10),
+        },
+        Width::Byte8 => match offset(imm, 8, 256) {
+            Code::Is(code) => Wrote::Word(compressed_double(func3 + 1, reg, base, code)),
+            Code::Out => Wrote::Refused(10),
+        },
+        _ => Wrote::Refused(9),
+    }
+}
+
+// The code of an immediate that is a multiple of `step` below `limit`.
+fn offset(imm: isize, step: usize, limit: usize) -> Code
+    requires { ⌜ 0 < step ⌝ }
+    ensures { λ r. ⌜ r ≡ stepped step limit (codeDef 2048 imm) ⌝ }
+{
+    match utils::code_of(imm, HALF) {
+        Code::Is(n) => if n % step != 0 {
+            Code::Out
+        } else if n < limit {
+            Code::Is(n)
+        } else {
+            Code::Out
+        },
+        Code::Out => Code::Out,
+    }
+}
+
+// C.LW and C.SW, by `func3`.
+fn compressed_word(func3: usize, reg: usize, base: usize, imm: usize) -> u64
+    requires { ⌜ func3 < 8 ⌝ }
+    ensures { λ r. ⌜ r ≡ build (under func3 c-lw) (parts reg base func3 imm) ⌝ }
+{
+    let imm_2 = (imm >> 2) & 0b1;
+    let imm_5_3 = (imm >> 3) & 0b111;
+    let imm_6 = (imm >> 6) & 0b1;
+    ((func3 << 13)
+        | (imm_5_3 << 10)
+        | ((base & 0b111) << 7)
+        | (imm_2 << 6)
+        | (imm_6 << 5)
+        | ((reg & 0b111) << 2)) as u64
+}
+
+// C.LD and C.SD, by `func3`.
+fn compressed_double(func3: usize, reg: usize, base: usize, imm: usize) -> u64
+    requires { ⌜ func3 < 8 ⌝ }
+    ensures { λ r. ⌜ r ≡ build (under func3 c-ld) (parts reg base func3 imm) ⌝ }
+{
+    let imm_5_3 = (imm >> 3) & 0b111;
+    let imm_7_6 = (imm >> 6) & 0b11;
+    ((func3 << 13)
+        | (imm_5_3 << 10)
+        | ((base & 0b111) << 7)
+        | (imm_7_6 << 5)
+        | ((reg & 0b111) << 2)) as u64
+}
+
+// A 32-bit load.
+fn load_word(rd: usize, rs1: usize, func3: usize, imm: usize) -> u64
+    ensures { λ r. ⌜ r ≡ build load (parts rd rs1 func3 imm) ⌝ }
+{
+    let imm_11_0 = imm & 0b111111111111;
+    ((imm_11_0 << 20)
+        | ((rs1 & 0b11111) << 15)
+        | ((func3 & 0b111) << 12)
+        | ((rd & 0b11111) << 7)
+        | 0x03) as u64
+}
+
+// A 32-bit store.
+fn store_word(rs2: usize, rs1: usize, func3: usize, imm: usize) -> u64
+    ensures { λ r. ⌜ r ≡ build store (parts rs2 rs1 func3 imm) ⌝ }
+{
+    let imm_11_5 = (imm >> 5) & 0b1111111;
+    let imm_4_0 = imm & 0b11111;
+    ((imm_11_5 << 25)
+        | ((rs2 & 0b11111) << 20)
+        | ((rs1 & 0b11111) << 15)
+        | ((func3 & 0b11) << 12)
+        | (imm_4_0 << 7)
+        | 0x23) as u64
+}
+
+// funct3 of a load's width and sign.
+fn load_func3(len: Width, is_unsigned: bool) -> usize
+    ensures { λ r. ⌜ r ≡ funct3Of len «is_unsigned» ⌝ }
+{
+    let size = size_of(len);
+    if is_unsigned { 4 + size } else { size }
+}
+
+// funct3 of a signed load's width, and of a store's.
+fn size_of(len: Width) -> usize
+    ensures { λ r. ⌜ r ≡ sizeOf len ⌝ }
+{
+    match len {
+        Width::Byte => 0b00,
+        Width::Byte2 => 0b01,
+        Width::Byte4 => 0b10,
+        Width::Byte8 => 0b11,
+    }
+}
