@@ -1,10 +1,15 @@
 -- `utils::sign_extend` meets its contract: each width rests on `extend`, and 64 bits are their own extension. Assumes nothing.
-use mathlib.Core.Path.{sym, ap, _∙_}
+use mathlib.Core.Path.{_≡_, sym, ap, _∙_}
+use Prim.Native.Nat.{ℕ}
 use borrow.Author.Needs.{needs}
+use Rattle.utils.specs.declared.Width.{Width}
 use Rattle.utils.specs.Width.{extended, halfOf}
 use Rattle.utils.proofs.Signed.{whole}
 use Rattle.utils.proofs.sign_extend.Statement.{statement}
 use Rattle.utils.proofs.sign_extend.Tie as tie
+
+at-width : (x : ℕ) {r : ℕ} {w v : Width} → r ≡ extended (halfOf v) x → w ≡ v → r ≡ extended (halfOf w) x
+at-width x e q = e ∙ ap (λ u. extended (halfOf u) x) (sym q)
 
 pub sign-extend-spec : {M : Type 1} → statement M
 sign-extend-spec =
@@ -17,9 +22,7 @@ sign-extend-spec =
     (λ c. search needs)
     (λ c κs. search needs)
     (λ c. search needs)
-    (λ c. cc)
-    (λ c. cc)
-    (λ c. cc)
-    (λ c.
-    let a = c .before .before .args in
-    whole (a .value) (c .before .before .fits .value .fits) ∙ ap (λ w. extended (halfOf w) (a .value)) (sym (c .enum-told4 .given .1))))
+    (λ c. at-width (c .before .before .before .args .value) (c .extend .ensures) (c .before .enum-told .given .1))
+    (λ c. at-width (c .before .before .before .args .value) (c .extend2 .ensures) (c .before .enum-told2 .given .1))
+    (λ c. at-width (c .before .before .before .args .value) (c .extend3 .ensures) (c .before .enum-told3 .given .1))
+    (λ c. at-width (c .before .before .args .value) (whole (c .before .before .args .value) (c .before .before .fits .value .fits)) (c .enum-told4 .given .1)))
