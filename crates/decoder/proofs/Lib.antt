@@ -4,3 +4,4 @@ pub mod SystemSteps
 pub mod Sentence
 pub mod Words01
 pub mod Accepts
+pub mod Codes

@@ -12,7 +12,7 @@ use Rattle.csrs.specs.declared.CsrLookup.{CsrLookup}
 use Rattle.csrs.specs.declared.CsrLookup.the-variants.{Found, Missing}
 use Rattle.profiles.specs.declared.Profile.{Profile}
 use Rattle.csrs.specs.Gates.{decodeCsrDef, isFound, available}
-use Rattle.forms.proofs.Tests.{both, join}
+use Rattle.utils.proofs.Tests.{both, join}
 use Rattle.decoder.specs.declared.CsrOp.{CsrOp}
 use Rattle.decoder.specs.declared.CsrOp.the-variants.{Write, Set, Clear}
 use Rattle.decoder.specs.declared.IllegalRead.the-variants.{InvalidCsrOp}

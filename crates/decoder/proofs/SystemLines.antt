@@ -1,5 +1,5 @@
 -- Which words are of which line of the SYSTEM table, by the fields that the lines fix. Assumes nothing.
-use mathlib.Core.Path.{_≡_, refl, sym, ap, subst, _∙_}
+use mathlib.Core.Path.{_≡_, refl, sym, ap, _∙_}
 use mathlib.Core.Bool.{Bool, true, false, cond}
 use mathlib.Core.List.{List, [], _∷_, _++_}
 use Prim.Native.Nat.{ℕ, _+_, _*_, _/_, _%_, _^_, _<_}
@@ -13,9 +13,10 @@ use Rattle.utils.proofs.Signed.{by-test}
 use Rattle.forms.specs.Layout.{Layout, const, take, given, avoid, bits, width, matches, read, spares, readable}
 use Rattle.forms.specs.Table.{Kind, form, none, first, distinct}
 use Rattle.forms.specs.Speech.{Every, readAs, readOf, bitOf}
-use Rattle.forms.proofs.Tests.{both, join, on}
+use Rattle.utils.proofs.Tests.{both, join, on}
 use Rattle.forms.proofs.Laws.{read-build}
-use Rattle.forms.proofs.Table.{no-form, row, Inside, row-reads}
+use Rattle.forms.proofs.Accepts.{by-lines}
+use Rattle.forms.proofs.Table.{row, Inside, row-reads}
 use Rattle.forms.proofs.Codes.{bit-one}
 use Rattle.decoder.specs.declared.CsrOp.{CsrOp}
 use Rattle.decoder.specs.declared.CsrOp.the-variants.{Write, Set, Clear}
@@ -201,27 +202,24 @@ FieldsOf w (access o m a d x) = (fld w 12 3 ≡ funct3 o m) × ((a ≡ fld w 20 
 
 module _ (w : ℕ) where
   abbrev Has : List Layout → Type 0
-  Has T = Every (λ L. matches L w ≡ true → FieldsOf w (speech .make (read L w))) T
+  Has T = Every (λ L. readable w L ≡ true → FieldsOf w (speech .make (read L w))) T
 
-  by-lines : (T : List Layout) → Has T → (s : Shape) → readOf T speech w ≡ form s → FieldsOf w s
-  by-lines [] h s = no-form 1 s
-  by-lines (L ∷ T) h s =
-      on (λ (k : Kind Layout). readAs speech w k ≡ form s → FieldsOf w s) (readable w L)
-      (λ e q. subst (FieldsOf w) ((let z : speech .make (read L w) ≡ s = cc in z)) (h .0 (both (matches L w) (spares L (read L w)) e .0)))
-      (λ _. by-lines T (h .1) s)
+  -- a line that reads the word has its bits
+  has : (L : Layout) → readable w L ≡ true → matches L w ≡ true
+  has L r = both (matches L w) (spares L (read L w)) r .0
 
   six-have : Has accesses
   six-have = (
-    λ m. (fixed csrrw w m .0, (refl, (refl, refl))),
+    λ r. (fixed csrrw w (has csrrw r) .0, (refl, (refl, refl))),
     (
-      λ m. (fixed csrrs w m .0, (refl, (refl, refl))),
+      λ r. (fixed csrrs w (has csrrs r) .0, (refl, (refl, refl))),
       (
-        λ m. (fixed csrrc w m .0, (refl, (refl, refl))),
+        λ r. (fixed csrrc w (has csrrc r) .0, (refl, (refl, refl))),
         (
-          λ m. (fixed csrrwi w m .0, (refl, (refl, refl))),
+          λ r. (fixed csrrwi w (has csrrwi r) .0, (refl, (refl, refl))),
           (
-            λ m. (fixed csrrsi w m .0, (refl, (refl, refl))),
-            (λ m. (fixed csrrci w m .0, (refl, (refl, refl))), tt),
+            λ r. (fixed csrrsi w (has csrrsi r) .0, (refl, (refl, refl))),
+            (λ r. (fixed csrrci w (has csrrci r) .0, (refl, (refl, refl))), tt),
           ),
         ),
       ),
@@ -232,4 +230,4 @@ module _ (w : ℕ) where
   unfolding shapeAt accessAt
   shape-fields s =
       on (λ (k : Kind Shape). k ≡ form s → FieldsOf w s) (ltb w (2 ^ 32))
-      (λ _. by-lines system (λ m. tt, (λ m. tt, (λ m. tt, (λ m. (refl, refl), (λ m. (refl, refl), (λ m. (refl, refl), six-have)))))) s) (λ _. by-lines accesses six-have s)
+      (λ _. by-lines speech w (FieldsOf w) system (λ r. tt, (λ r. tt, (λ r. tt, (λ r. (refl, refl), (λ r. (refl, refl), (λ r. (refl, refl), six-have)))))) s) (λ _. by-lines speech w (FieldsOf w) accesses six-have s)

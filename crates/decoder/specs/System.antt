@@ -46,6 +46,10 @@ opCode Write = 1
 opCode Set = 2
 opCode Clear = 3
 
+-- and from a code to what is made of its operation; x where no operation has the code
+abbrev pub byOp : {X : Type 0} → (CsrOp → X) → X → ℕ → X
+byOp f x o = cond (eqb o (opCode Write)) (f Write) (cond (eqb o (opCode Set)) (f Set) (cond (eqb o (opCode Clear)) (f Clear) x))
+
 -- bits 14:12 of a CSR form, as the six lines of the table have them; the third chooses immediate
 abbrev pub funct3 : CsrOp → Bool → ℕ
 funct3 o m = opCode o + 4 * bitOf m
@@ -55,6 +59,9 @@ abbrev pub fenceCode : Fence → ℕ
 fenceCode Vma = 0
 fenceCode Vvma = 1
 fenceCode Gvma = 2
+
+abbrev pub byFence : {X : Type 0} → (Fence → X) → X → ℕ → X
+byFence f x c = cond (eqb c (fenceCode Vma)) (f Vma) (cond (eqb c (fenceCode Vvma)) (f Vvma) (cond (eqb c (fenceCode Gvma)) (f Gvma) x))
 
 -- the shapes of a table's operands, in the order of its lines
 abbrev pub shapes : (Operand → ℕ) → List Shape

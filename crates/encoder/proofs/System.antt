@@ -26,7 +26,7 @@ use Rattle.forms.specs.Layout.{Layout, Operand, imm, rd, rs1, rs2, funct, all, 
 use Rattle.forms.specs.Table.{Kind, form, none, first, sound}
 use Rattle.forms.specs.Speech.{Says, Every, Faithful, readAs, readOf}
 use Rattle.forms.specs.Demand3.{RefusedExactly, OnlyWord}
-use Rattle.forms.proofs.Tests.{on}
+use Rattle.utils.proofs.Tests.{on}
 use Rattle.forms.proofs.Laws.{read-lt}
 use Rattle.forms.proofs.Table.{no-form, first-all, found-good}
 use Rattle.forms.proofs.AnyReader.{no-word, refused-by, only-by}

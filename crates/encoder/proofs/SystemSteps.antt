@@ -20,7 +20,7 @@ use Rattle.csrs.proofs.Laws.{found-lt}
 use Rattle.forms.specs.declared.Wrote.the-variants.{Word}
 use Rattle.forms.specs.Layout.{imm, width, holds, chosen, good, build}
 use Rattle.forms.specs.Speech.{writeOf, put}
-use Rattle.forms.proofs.Tests.{join}
+use Rattle.utils.proofs.Tests.{join}
 use Rattle.forms.proofs.Table.{row, Inside, row-writes}
 use Rattle.forms.proofs.Shifts.{orBuild, put-together}
 use Rattle.utils.specs.declared.Code.the-variants.{Is, Out}

@@ -1,23 +1,25 @@
 -- What a table tells of the words that it accepts, and that two tables accept no word in common. Assumes nothing.
-use mathlib.Core.Path.{_≡_, sym, _∙_}
+use mathlib.Core.Path.{_≡_, sym, subst, _∙_}
 use mathlib.Core.Bool.{Bool, true, false, _&&_, _||_, false≢true}
 use mathlib.Core.List.{List, [], _∷_}
 use Prim.Native.Nat.{ℕ}
 use borrow.Author.Tests.{eqb-true}
 use lib.Dec.{eqb}
-use Rattle.forms.specs.Layout.{Layout, const, take, given, avoid, all, bits, width, matches, readable}
+use Rattle.forms.specs.Layout.{Layout, const, take, given, avoid, all, bits, width, matches, read, readable}
 use Rattle.forms.specs.Table.{Kind, form, first, ofWord, clash}
 use Rattle.forms.specs.Speech.{Speech, Every, readAs, readOf}
-use Rattle.forms.proofs.Tests.{both, either, on}
+use Rattle.utils.proofs.Tests.{both, either, on}
 use Rattle.forms.proofs.Table.{no-form, word-once}
 
--- what each line says of the words that it reads, holds of a word that is accepted
-pub by-lines : {I X : Type 0} (S : Speech I) (w : ℕ) (i : I) (T : List Layout) → Every (λ L. readable w L ≡ true → X) T → readOf T S w ≡ form i → X
-by-lines {I} {X} S w i T = go T (S .why w)
+-- what each line says of what it reads, holds of an instruction that is accepted
+pub by-lines : {I : Type 0} (S : Speech I) (w : ℕ) (P : I → Type 0) (T : List Layout) → Every (λ L. readable w L ≡ true → P (S .make (read L w))) T → (i : I) → readOf T S w ≡ form i → P i
+by-lines {I} S w P T h i = go T (S .why w) h
   where
-    go : (T : List Layout) (n : ℕ) → Every (λ L. readable w L ≡ true → X) T → readAs S w (first (readable w) T n) ≡ form i → X
+    go : (T : List Layout) (n : ℕ) → Every (λ L. readable w L ≡ true → P (S .make (read L w))) T → readAs S w (first (readable w) T n) ≡ form i → P i
     go [] n h = λ q. no-form n i q
-    go (L ∷ T) n h = on (λ (k : Kind Layout). readAs S w k ≡ form i → X) (readable w L) (λ e _. h .0 e) (λ _ q. go T n (h .1) q)
+    go (L ∷ T) n h =
+        on (λ (k : Kind Layout). readAs S w k ≡ form i → P i) (readable w L)
+        (λ e q. subst P ((let z : S .make (read L w) ≡ i = cc in z)) (h .0 e)) (λ _. go T n (h .1))
 
 -- a computed test of the lines
 pub by-test : (f : Layout → Bool) {P : Layout → Type 0} → ((L : Layout) → f L ≡ true → P L) → (T : List Layout) → all f T ≡ true → Every P T
@@ -31,7 +33,7 @@ crossed T U = all (λ L. all (λ M. clash (ofWord M) (ofWord L)) U) T
 pub not-both : {I J : Type 0} (T U : List Layout) (R : Speech I) (S : Speech J) (w : ℕ) (i : I) (j : J) → crossed T U ≡ true
     → readOf T R w ≡ form i → readOf U S w ≡ form j → ⊥
 not-both T U R S w i j e p q =
-    by-lines R w i T (by-test _ (λ L f r. by-lines S w j U (by-test _ (λ M c. word-once w L M r c) U f) q) T e) p
+    by-lines R w (λ _. ⊥) T (by-test _ (λ L f r. by-lines S w (λ _. ⊥) U (by-test _ (λ M c. word-once w L M r c) U f) j q) T e) i p
 
 -- the n bits of the word from bit k on are v, as the layout has it
 abbrev pub fixes : ℕ → ℕ → ℕ → Layout → Bool

@@ -14,7 +14,7 @@ use Rattle.utils.specs.declared.Code.the-variants.{Is, Out}
 use Rattle.forms.specs.declared.Wrote.the-variants.{Word}
 use Rattle.forms.specs.Layout.{Layout, imm, holds}
 use Rattle.forms.specs.Speech.{within, put, bitOf}
-use Rattle.forms.proofs.Tests.{on}
+use Rattle.utils.proofs.Tests.{on}
 use Rattle.forms.proofs.AnyReader.{no-word}
 
 not-out : {X : Type 0} (n : ℕ) → Out ≡ Is n → X

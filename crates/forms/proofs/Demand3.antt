@@ -14,7 +14,7 @@ use Rattle.forms.specs.Layout.{Layout, Operand, imm, rd, rs1, rs2, funct
 use Rattle.forms.specs.Table.{Kind, form, none, first, distinct, sound}
 use Rattle.forms.specs.Speech.{Speech, Speaks, Says, Every, Faithful, listed, roomOf, within, put, readAs, readOf, writeAs, writeOf, lits, below, fitted, limited}
 use Rattle.forms.specs.Demand3.{OnlyWord, RefusedExactly}
-use Rattle.forms.proofs.Tests.{both, either, on}
+use Rattle.utils.proofs.Tests.{both, either, on}
 use Rattle.forms.proofs.Laws.{every-at, read-lt}
 use Rattle.forms.proofs.Table.{no-form, same-form, read-back, write-back}
 use Rattle.forms.proofs.AnyReader.{no-word, refused-by, only-by}

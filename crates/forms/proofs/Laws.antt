@@ -12,7 +12,8 @@ use lib.Arith.{digits-lt}
 use lib.Pow.{pow-pos, pow-add, mod-pow-add}
 use Rattle.utils.proofs.Digits.{same-high, same-low}
 use Rattle.forms.specs.Layout.{Operand, imm, rd, rs1, rs2, funct, csr, short, others, code, all, every, const, take, given, avoid, Layout, bits, place, width, matches, build, Source, from, lit, Piece, piece, insert, add, pieces, digit, gather, read, size, spares, readable, held, holds, chosen, fits, chain, constants, good}
-use Rattle.forms.proofs.Tests.{both, join, on, all-of}
+use Rattle.utils.proofs.Tests.{both, join, on}
+use Rattle.forms.proofs.Tests.{all-of}
 
 -- ---- operands are known by their places
 abbrev nth : Operand → List Operand → ℕ → Operand

@@ -12,7 +12,7 @@ use lib.Pow.{pow-pos, pow-add, shl-lt}
 use Rattle.utils.proofs.Bits.{mask-field, shl-field}
 use Rattle.forms.specs.Layout.{Operand, const, take, given, avoid, Layout, bits, place, width, build, Source, from, lit, Piece, piece, pieces, digit, gather, read, size, chain, constants, good}
 use Rattle.forms.proofs.Laws.{linked, bits-lt, place-is, digit-lt, gather-lt, constant, chained, built-lt}
-use Rattle.forms.proofs.Tests.{both}
+use Rattle.utils.proofs.Tests.{both}
 
 -- (w >> k) & (2^n - 1); d << a
 abbrev pub masked : ℕ → ℕ → ℕ → ℕ

@@ -11,7 +11,8 @@ use lib.Pow.{field, shr-shr, mod-mod-pow}
 use Rattle.forms.specs.Layout.{Layout, const, take, given, avoid, Operand, imm, others, all, bits, width, matches, build, read, spares, Piece, piece, from, lit, pieces, holds, readable, chosen, good}
 use Rattle.forms.specs.Table.{Kind, form, none, first, any, Bit, bit, spread, ofWord, ofPieces, differs, clash, apart, distinct, sound}
 use Rattle.forms.specs.Speech.{Speech, readAs, readOf, writeAs, writeOf}
-use Rattle.forms.proofs.Tests.{both, either, on, not-any}
+use Rattle.utils.proofs.Tests.{both, either, on}
+use Rattle.forms.proofs.Tests.{not-any}
 use Rattle.forms.proofs.Laws.{Held, holds-true, read-build, read-holds, build-lt, readable-chosen, chosen-back, chosen-readable}
 
 -- ---- the first that passes

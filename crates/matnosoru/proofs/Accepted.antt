@@ -11,7 +11,7 @@ use Rattle.forms.specs.declared.Wrote.{Wrote}
 use Rattle.forms.specs.declared.Wrote.the-variants.{Word, Refused}
 use Rattle.forms.specs.Table.{Kind, form, none}
 use Rattle.forms.proofs.Table.{no-form}
-use Rattle.forms.proofs.Tests.{on}
+use Rattle.utils.proofs.Tests.{on}
 use Rattle.decoder.specs.System.{Shape}
 use Rattle.encoder.specs.System.{shapeFor}
 use Rattle.memory_encoder.specs.LoadStore.{encodeLoadDef, encodeStoreDef}

@@ -14,7 +14,7 @@ use Rattle.forms.specs.Layout.{readable}
 use Rattle.forms.specs.Table.{Kind, form, none}
 use Rattle.forms.specs.Speech.{readOf}
 use Rattle.forms.proofs.Accepts.{by-lines, not-both}
-use Rattle.forms.proofs.Tests.{both}
+use Rattle.utils.proofs.Tests.{both}
 use Rattle.forms.proofs.Table.{row}
 use Rattle.memory_decoder.specs.Forms.{loads, stores}
 use Rattle.memory_decoder.specs.Load as Load
@@ -49,7 +49,7 @@ module _ (w : ℕ) where
   next-short f r = let t = short (suc f) r in inr (t .0, inr (t .1))
 
   pub load-word : (i : LoadInstr) → readOf loads Load.speech w ≡ form i → LoadWord w
-  load-word i = by-lines Load.speech w i loads (long, (first-short 0b010, (next-short 0b010, tt)))
+  load-word = by-lines Load.speech w (λ _. LoadWord w) loads (long, (first-short 0b010, (next-short 0b010, tt)))
     where
       long : readable w (row loads 0) ≡ true → LoadWord w
       long r =
@@ -57,7 +57,7 @@ module _ (w : ℕ) where
           inl (eqb-true _ _ (t .0), λ e. eqb-false _ _ (not-true _ (t .1)) (mod-eq-of-lt (fld-lt w 12 3) ∙ e))
 
   pub store-word : (i : StoreInstr) → readOf stores Store.speech w ≡ form i → StoreWord w
-  store-word i = by-lines Store.speech w i stores (long, (first-short 0b110, (next-short 0b110, tt)))
+  store-word = by-lines Store.speech w (λ _. StoreWord w) stores (long, (first-short 0b110, (next-short 0b110, tt)))
     where
       small : (x y z : ℕ) → x ≡ y * 2 ^ 2 + z → y ≡ 0 → z < 2 ^ 2 → x < 4
       small x y z e f h = omega arith

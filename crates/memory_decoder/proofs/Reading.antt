@@ -12,8 +12,8 @@ use lib.Dec.{eqb, leb}
 use lib.IntN.{ℤ, pos}
 use lib.Pow.{pow-mono, mod-mod-pow}
 use mir.Syntax.{w64}
-use mir.Val.{SFits, Fits, toZ, ofZ}
-use mir.ValLaws.{toZ-ofZ, toZ-pos}
+use mir.Val.{SFits, Fits, toZ}
+use mir.ValLaws.{toZ-pos}
 use Rattle.utils.specs.Field.{fld}
 use Rattle.utils.specs.Signed.{signed}
 use Rattle.utils.proofs.Bits.{mask-field}
@@ -27,7 +27,7 @@ use Rattle.forms.specs.Speech.{Speech, readAs, readOf}
 use Rattle.forms.proofs.Laws.{read-lt}
 use Rattle.forms.proofs.Shifts.{orRead, gathered}
 use Rattle.forms.proofs.Table.{row, Inside, row-reads}
-use Rattle.forms.proofs.Tests.{on}
+use Rattle.utils.proofs.Tests.{on}
 use Rattle.memory_decoder.specs.Forms.{loads, stores}
 use Rattle.memory_decoder.specs.Load as Load
 use Rattle.memory_decoder.specs.Store as Store
@@ -55,10 +55,6 @@ module _ (w k : ℕ) where
       go x h = omega arith
 
 -- ---- immediates
--- a signed number as the machine reads it back
-pub kept : {z n : ℤ} → SFits w64 z → z ≡ n → toZ w64 (ofZ w64 z) ≡ n
-kept {z} f e = toZ-ofZ w64 z f ∙ e
-
 -- the compressed immediate that the code gathers is not negative
 module _ (L : Layout) (ok : good L ≡ true) (small : leb (size L imm) 11 ≡ true) (w : ℕ) where
   gathers : orRead w (pieces L imm) ≡ read L w imm

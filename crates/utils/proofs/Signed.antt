@@ -58,6 +58,10 @@ signed-twos H (negsuc m) h =
     signed-high H (2 * H - 1 - m) (omega arith) ∙ ap negsuc (omega arith)
 
 -- ---- the machine's reading
+-- a signed number that fits is read back as it was
+pub kept : {z n : ℤ} → SFits w64 z → z ≡ n → toZ w64 (ofZ w64 z) ≡ n
+kept {z} f e = toZ-ofZ w64 z f ∙ e
+
 -- y - (n + 1), for y at most n
 pub minus-full : (n y : ℕ) → y < suc n → pos y -ℤ pos (suc n) ≡ negsuc (n - y)
 minus-full n y h = simp (lt-ltb y (suc n) h, suc-sub-suc)
@@ -82,7 +86,7 @@ up-cast (negsuc m) f t = absurd (subst T t tt)
 -- The tests and the operations stand at toZ w64 (ofZ w64 z), which is z where z fits: one module of what a branch on `z < 0` wants.
 module _ (z : ℤ) (f : SFits w64 z) where
   read : toZ w64 (ofZ w64 z) ≡ z
-  read = toZ-ofZ w64 z f
+  read = kept f refl
 
   module _ (t : ltZ (toZ w64 (ofZ w64 z)) (pos 0) ≡ true) where
     less : ltZ z (pos 0) ≡ true
@@ -96,7 +100,7 @@ module _ (z : ℤ) (f : SFits w64 z) where
     below-fits = subst (λ (v : ℤ). SFits w64 v) (sym below-is) (record { sfits = f .sfits })
 
     pub below-read : toZ w64 (ofZ w64 (negsuc 0 -ℤ toZ w64 (ofZ w64 z))) ≡ pos (mag z)
-    below-read = toZ-ofZ w64 _ below-fits ∙ below-is
+    below-read = kept below-fits below-is
 
     pub below-cast : T (nonNeg (toZ w64 (ofZ w64 (negsuc 0 -ℤ toZ w64 (ofZ w64 z))))) × Fits w64 (natAbs (toZ w64 (ofZ w64 (negsuc 0 -ℤ toZ w64 (ofZ w64 z)))))
     below-cast = subst (λ (v : ℤ). T (nonNeg v) × Fits w64 (natAbs v)) (sym below-read) (tt, record { fits = omega (arith, f .sfits) })
@@ -126,7 +130,7 @@ module _ (n y : ℕ) (below : y < suc n) (small : suc n ≤ 2 ^ 63) where
   full-fits = subst (λ (v : ℤ). SFits w64 v) (sym full-is) (record { sfits = omega arith })
 
   pub full-read : toZ w64 (ofZ w64 (toZ w64 y -ℤ pos (suc n))) ≡ negsuc (n - y)
-  full-read = toZ-ofZ w64 _ full-fits ∙ full-is
+  full-read = kept full-fits full-is
 
 -- a register's value is its own extension
 pub whole : (x : ℕ) → x < 2 ^ 64 → x ≡ twos (2 ^ 63) (signed (2 ^ 63) (x % (2 * 2 ^ 63)))

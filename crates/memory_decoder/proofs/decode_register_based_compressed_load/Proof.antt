@@ -3,7 +3,8 @@ use mathlib.Core.Path.{refl, _∙_}
 use mathlib.Core.Bool.{true}
 use borrow.Author.Needs.{needs}
 use Rattle.memory_decoder.specs.Load.{loadDef}
-use Rattle.memory_decoder.proofs.Reading.{kept, loading, reads-short, no-short, same-load}
+use Rattle.utils.proofs.Signed.{kept}
+use Rattle.memory_decoder.proofs.Reading.{loading, reads-short, no-short, same-load}
 use Rattle.memory_decoder.proofs.decode_register_based_compressed_load.Statement.{statement}
 use Rattle.memory_decoder.proofs.decode_register_based_compressed_load.Tie as tie
 

@@ -3,7 +3,8 @@ use mathlib.Core.Path.{refl, _∙_}
 use mathlib.Core.Bool.{true}
 use borrow.Author.Needs.{needs}
 use Rattle.memory_decoder.specs.Store.{storeDef}
-use Rattle.memory_decoder.proofs.Reading.{kept, storing, reads-short, no-short, same-store}
+use Rattle.utils.proofs.Signed.{kept}
+use Rattle.memory_decoder.proofs.Reading.{storing, reads-short, no-short, same-store}
 use Rattle.memory_decoder.proofs.decode_register_based_compressed_store.Statement.{statement}
 use Rattle.memory_decoder.proofs.decode_register_based_compressed_store.Tie as tie
 

@@ -12,7 +12,8 @@ use Rattle.utils.proofs.Bits.{mask-field}
 use Rattle.utils.proofs.Digits.{fld-lt}
 use Rattle.memory_decoder.specs.Funct3.{widthOf}
 use Rattle.memory_decoder.specs.Load.{loadDef}
-use Rattle.memory_decoder.proofs.Reading.{kept, loading, reads, foreign, reserved, same-load}
+use Rattle.utils.proofs.Signed.{kept}
+use Rattle.memory_decoder.proofs.Reading.{loading, reads, foreign, reserved, same-load}
 use Rattle.memory_decoder.proofs.decode_uncompressed_load.Statement.{statement}
 use Rattle.memory_decoder.proofs.decode_uncompressed_load.Tie as tie
 

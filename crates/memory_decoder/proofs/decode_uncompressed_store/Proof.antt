@@ -21,7 +21,8 @@ use Rattle.forms.proofs.Shifts.{orRead, gathered}
 use Rattle.memory_decoder.specs.Forms.{store}
 use Rattle.memory_decoder.specs.Funct3.{widthOf}
 use Rattle.memory_decoder.specs.Store.{storeDef}
-use Rattle.memory_decoder.proofs.Reading.{kept, storing, reads, foreign, reserved, same-store}
+use Rattle.utils.proofs.Signed.{kept}
+use Rattle.memory_decoder.proofs.Reading.{storing, reads, foreign, reserved, same-store}
 use Rattle.memory_decoder.proofs.decode_uncompressed_store.Statement.{statement}
 use Rattle.memory_decoder.proofs.decode_uncompressed_store.Tie as tie
 

@@ -1,13 +1,12 @@
 -- `registers::register_at` meets its contract: the mask leaves five bits, and past 64 bits there are none. Assumes nothing.
 use mathlib.Core.Path.{_≡_, sym, ap, _∙_}
-use Prim.Native.Nat.{ℕ, _/_, _%_, _^_, _<_, _≤_}
-use native.Mathlib.Nat.{div-eq-of-lt, lt-of-lt-of-le, mod-eq-of-lt}
+use Prim.Native.Nat.{ℕ, _/_, _%_, _^_}
+use native.Mathlib.Nat.{mod-eq-of-lt}
 use lib.Bits.{bitAnd}
-use lib.Pow.{pow-mono}
 use borrow.Author.Needs.{needs}
 use Rattle.utils.specs.Field.{fld}
 use Rattle.utils.proofs.Bits.{mask-field}
-use Rattle.utils.proofs.Digits.{fld-lt}
+use Rattle.utils.proofs.Digits.{fld-lt, fld-past}
 use Rattle.registers.specs.declared.Register.{Register}
 use Rattle.registers.proofs.register_at.Statement.{statement}
 use Rattle.registers.proofs.register_at.Tie as tie
@@ -16,14 +15,11 @@ module _ (w k : ℕ) where
   five : {r : Register} → r ≡ record { 0 = bitAnd (w / 2 ^ k) 31 % 2 ^ 5 } → r ≡ record { 0 = fld w k 5 }
   five e = e ∙ (λ j. record { 0 = (ap (λ (x : ℕ). x % 2 ^ 5) (mask-field w k 5) ∙ mod-eq-of-lt (fld-lt w k 5)) j })
 
-  past : w < 2 ^ 64 → 64 ≤ k → 0 ≡ fld w k 5
-  past f h = sym (ap (λ (x : ℕ). x % 2 ^ 5) (div-eq-of-lt (lt-of-lt-of-le f (pow-mono h))))
-
 pub register-at-spec : {M : Type 1} → statement M
 register-at-spec =
     tie.close
     (tie.spec
-    (λ c. ap (λ (n : ℕ). record { 0 = n }) (past (c .before .args .raw) (c .before .args .k) (c .before .fits .raw .fits) (c .if1 .taken)))
+    (λ c. ap (λ (n : ℕ). record { 0 = n }) (sym (fld-past 64 (c .before .args .raw) (c .before .args .k) 5 (c .before .fits .raw .fits) (c .if1 .taken))))
     (λ c. search needs)
     (λ c κs. search needs)
     (λ c. five (c .before .before .args .raw) (c .before .before .args .k) (c .from .ensures)))

@@ -1,15 +1,12 @@
 -- `utils::bits_to_int` meets its contract: the branch is on the sign bit, and 64 bits have no field past them. Assumes nothing.
 use mathlib.Core.Path.{sym, ap, _∙_}
-use Prim.Native.Nat.{ℕ, _%_}
-use native.Mathlib.Nat.{div-eq-of-lt, lt-of-lt-of-le}
 use native.Mathlib.Omega.{arith}
-use lib.Pow.{pow-mono}
 use mir.Syntax.{w64}
 use mir.ValLaws.{toZ-pos}
 use borrow.Author.Needs.{needs}
 use Rattle.utils.specs.Field.{fld}
 use Rattle.utils.specs.Signed.{signed}
-use Rattle.utils.proofs.Digits.{fld-lt}
+use Rattle.utils.proofs.Digits.{fld-lt, fld-past}
 use Rattle.utils.proofs.Signed.{full-fits, full-read, signed-low, signed-high}
 use Rattle.utils.proofs.bits_to_int.Statement.{statement}
 use Rattle.utils.proofs.bits_to_int.Tie as tie
@@ -18,7 +15,7 @@ pub bits-to-int-spec : {M : Type 1} → statement M
 bits-to-int-spec =
     tie.close
     (tie.spec
-    (λ c. sym (ap (λ (n : ℕ). signed 2048 (n % 4096)) (div-eq-of-lt (lt-of-lt-of-le (c .before .fits .raw .fits) (pow-mono (c .if1 .taken))))))
+    (λ c. sym (ap (signed 2048) (fld-past 64 (c .before .args .raw) (c .before .args .start-bit) 12 (c .before .fits .raw .fits) (c .if1 .taken))))
     (λ c. search needs)
     (λ c. search needs)
     (λ c. search needs)
