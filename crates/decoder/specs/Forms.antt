@@ -13,7 +13,7 @@ nth k = equal funct 4 k ++ long
 
 -- funct12 | 0 | 0 | 0 | SYSTEM
 abbrev pub plain : ℕ → Layout
-plain funct12 = fix 12 funct12 ++ fix 5 0 ++ fix 3 0 ++ fix 5 0 ++ fix 7 0x73
+plain funct12 = fix 12 funct12 ++ fix 5 0b00000 ++ fix 3 0b000 ++ fix 5 0b00000 ++ fix 7 0b1110011
 
 abbrev pub wfi : Layout
 wfi = plain 0b000100000101 ++ nth 0
@@ -31,7 +31,7 @@ funct7 Vvma = 0b0010001
 funct7 Gvma = 0b0110001
 
 abbrev pub fenced : ℕ → Layout
-fenced f = fix 7 f ++ reg rs2 ++ reg rs1 ++ fix 3 0 ++ fix 5 0 ++ fix 7 0x73
+fenced f = fix 7 f ++ reg rs2 ++ reg rs1 ++ fix 3 0b000 ++ fix 5 0b00000 ++ fix 7 0b1110011
 
 abbrev pub sfence-vma : Layout
 sfence-vma = fenced (funct7 Vma) ++ nth 3
@@ -44,7 +44,7 @@ hfence-gvma = fenced (funct7 Gvma) ++ nth 5
 
 -- csr | rs1 or uimm | funct3 | rd | SYSTEM
 abbrev pub access : ℕ → Layout
-access funct3 = field csr 12 ++ reg rs1 ++ fix 3 funct3 ++ reg rd ++ fix 7 0x73
+access funct3 = field csr 12 ++ reg rs1 ++ fix 3 funct3 ++ reg rd ++ fix 7 0b1110011
 
 abbrev pub csrrw : Layout
 csrrw = access 0b001 ++ nth 6

@@ -1,12 +1,13 @@
 -- What each exit of the SYSTEM writing's functions knows is what the definition asks there. Assumes nothing.
 use mathlib.Core.Path.{_≡_, refl, sym, ap, subst, _∙_}
-use mathlib.Core.Bool.{Bool, true, false, _&&_, cond}
+use mathlib.Core.Bool.{Bool, true, false, _&&_, _||_, not, cond}
+use mathlib.Core.List.{[], _∷_}
 use Prim.Native.Nat.{ℕ, _-_, _*_, _%_, _^_, _≤_, _<_}
 use native.Mathlib.Nat.{mod-eq-of-lt}
 use native.Mathlib.Omega.{arith}
-use borrow.Author.Tests.{le-leb, lt-leb, lt-ltb, leb-true}
+use borrow.Author.Tests.{le-leb, lt-leb, leb-true}
 use lib.Bits.{bitAnd, bitOr, and-mask}
-use lib.Dec.{leb, ltb}
+use lib.Dec.{leb}
 use Rattle.registers.specs.declared.Csr.{Csr}
 use Rattle.registers.specs.declared.Idx.{Idx}
 use Rattle.registers.specs.declared.Idx.the-variants.{At, Refused as Nowhere}
@@ -18,18 +19,19 @@ use Rattle.profiles.specs.declared.Profile.{Profile}
 use Rattle.csrs.specs.Gates.{decodeCsrDef}
 use Rattle.csrs.proofs.Laws.{found-lt}
 use Rattle.forms.specs.declared.Wrote.the-variants.{Word}
-use Rattle.forms.specs.Layout.{imm, width, holds, chosen, good, build}
-use Rattle.forms.specs.Speech.{writeOf, put}
-use Rattle.utils.proofs.Tests.{join}
-use Rattle.forms.proofs.Table.{row, Inside, row-writes}
+use Rattle.forms.specs.Layout.{Layout, Operand, imm, rd, rs1, rs2, funct, csr, short, all, width, holds, good, build}
+use Rattle.forms.specs.Table.{form, first}
+use Rattle.forms.specs.Speech.{writeAs, writeOf, put}
+use Rattle.forms.proofs.Facts.{under}
+use Rattle.forms.proofs.Choices.{Told, exactly, such, KnownAs, picks, drops, by-operands}
 use Rattle.forms.proofs.Shifts.{orBuild, put-together}
 use Rattle.utils.specs.declared.Code.the-variants.{Is, Out}
 use Rattle.decoder.specs.declared.CsrOp.{CsrOp}
 use Rattle.decoder.specs.declared.CsrOp.the-variants.{Write, Set, Clear}
 use Rattle.decoder.specs.declared.Fence.{Fence}
 use Rattle.decoder.specs.declared.Fence.the-variants.{Vma, Vvma, Gvma}
-use Rattle.decoder.specs.Forms.{funct7, system}
-use Rattle.decoder.specs.System.{Shape, fence, access, operandsOf, funct3, always, barredDef, speech}
+use Rattle.decoder.specs.Forms.{funct7, sfence-vma, hfence-vvma, hfence-gvma, csrrw, csrrs, csrrc, csrrwi, csrrsi, csrrci, system}
+use Rattle.decoder.specs.System.{Shape, fence, access, operands, operandsOf, funct3, always, barredDef, speech}
 use Rattle.encoder.specs.System.{below32, lookedUp, addressed, addressFor}
 
 -- ---- 6: z is the refusal
@@ -97,12 +99,23 @@ address-at p o c d x a = go (leb (d .0) 31) refl (leb x 31) refl (idxDef c) refl
     go false q t r i e f = no-at f
 
 -- ---- the words
--- a shape that fits line k of the table is written by it
-by-line : (k : ℕ) → Inside system k → (s : Shape) → chosen (operandsOf s) (row system k) ≡ true → holds (row system k) imm 0 ≡ true → good (row system k) ≡ true → leb (width (row system k)) 64 ≡ true
-    → {r : ℕ} → r ≡ orBuild (row system k) (operandsOf s) → Word r ≡ writeOf system speech s
-by-line k h s c i g l e =
-    ap Word (e ∙ put-together (row system k) g l (operandsOf s)) ∙ ap (λ (b : Bool). put (cond b (Is 0) Out) (build (row system k) (operandsOf s))) (sym i)
-    ∙ sym (row-writes system speech k h refl s c)
+-- what is known of a shape's operands: of the line's number, rd, rs1, rs2 and the CSR
+abbrev told : ℕ → Told → Told → Told → Told → Operand → Told
+told k d a b c imm = such []
+told k d a b c rd = d
+told k d a b c rs1 = a
+told k d a b c rs2 = b
+told k d a b c funct = exactly k
+told k d a b c csr = c
+told k d a b c short = exactly 0
+
+-- a shape of which this settles that the line is L is written by L
+module _ (s : Shape) (ks : Operand → Told) (h : (x : Operand) → KnownAs (operandsOf s x) (ks x)) (L : Layout) where
+  by-line : all (λ M. drops ks M || picks ks M) system ≡ true → first (λ M. not (drops ks M)) system 6 ≡ form L → holds L imm 0 ≡ true → good L ≡ true → leb (width L) 64 ≡ true
+      → {r : ℕ} → r ≡ orBuild L (operandsOf s) → Word r ≡ writeOf system speech s
+  by-line t f i g l e =
+      ap Word (e ∙ put-together L g l (operandsOf s)) ∙ ap (λ (b : Bool). put (cond b (Is 0) Out) (build L (operandsOf s))) (sym i)
+      ∙ ap (writeAs speech s) (sym f) ∙ sym (by-operands system speech refl s ks h t)
 
 -- the code does not mask what it has tested
 unmasked : (n x : ℕ) → x < 2 ^ n → x ≡ bitAnd x (2 ^ n - 1)
@@ -113,32 +126,42 @@ abbrev pub accessWord : ℕ → ℕ → ℕ → ℕ → ℕ
 accessWord a x f d = bitOr (bitOr (bitOr (bitOr ((a * 2 ^ 20) % 2 ^ 64) ((x * 2 ^ 15) % 2 ^ 64)) f) ((d * 2 ^ 7) % 2 ^ 64)) 0x73
 
 module _ (a d x : ℕ) (la : a < 2 ^ 12) (ld : d ≤ 31) (lx : x ≤ 31) where
-  fits : ltb a (2 ^ 12) && true && true && ltb x (2 ^ 5) && ltb d (2 ^ 5) && true ≡ true
-  fits = join (join (join (join (join (lt-ltb a (2 ^ 12) la) refl) refl) (lt-ltb x (2 ^ 5) (omega arith))) (lt-ltb d (2 ^ 5) (omega arith))) refl
+  abbrev accessTold : ℕ → Operand → Told
+  accessTold k = told k (such (under 5 ∷ [])) (such (under 5 ∷ [])) (exactly 0) (such (under 12 ∷ []))
+
+  known : (s : Shape) (k : ℕ) → operandsOf s ≡ operands k d x 0 a → (y : Operand) → KnownAs (operandsOf s y) (accessTold k y)
+  known s k e =
+      subst (λ (env : Operand → ℕ). (y : Operand) → KnownAs (env y) (accessTold k y)) (sym e)
+      (elim [ imm ↦ tt | rd ↦ (omega arith, tt) | rs1 ↦ (omega arith, tt) | rs2 ↦ refl | funct ↦ refl | csr ↦ (la, tt) | short ↦ refl ])
 
   masks : (f : ℕ) → accessWord a x f d ≡ accessWord (bitAnd a 4095) (bitAnd x 31) f (bitAnd d 31)
   masks f = λ j. accessWord (unmasked 12 a la j) (unmasked 5 x (omega arith) j) f (unmasked 5 d (omega arith) j)
 
   pub access-word : (o : CsrOp) (m : Bool) → Word (accessWord a x (funct3 o m * 2 ^ 12) d) ≡ writeOf system speech (access o m a d x)
-  access-word Write false = by-line 6 tt (access Write false a d x) fits refl refl refl (masks 0x1000)
-  access-word Set false = by-line 7 tt (access Set false a d x) fits refl refl refl (masks 0x2000)
-  access-word Clear false = by-line 8 tt (access Clear false a d x) fits refl refl refl (masks 0x3000)
-  access-word Write true = by-line 9 tt (access Write true a d x) fits refl refl refl (masks 0x5000)
-  access-word Set true = by-line 10 tt (access Set true a d x) fits refl refl refl (masks 0x6000)
-  access-word Clear true = by-line 11 tt (access Clear true a d x) fits refl refl refl (masks 0x7000)
+  access-word Write false = by-line (access Write false a d x) (accessTold 6) (known (access Write false a d x) 6 refl) csrrw refl refl refl refl refl (masks 0x1000)
+  access-word Set false = by-line (access Set false a d x) (accessTold 7) (known (access Set false a d x) 7 refl) csrrs refl refl refl refl refl (masks 0x2000)
+  access-word Clear false = by-line (access Clear false a d x) (accessTold 8) (known (access Clear false a d x) 8 refl) csrrc refl refl refl refl refl (masks 0x3000)
+  access-word Write true = by-line (access Write true a d x) (accessTold 9) (known (access Write true a d x) 9 refl) csrrwi refl refl refl refl refl (masks 0x5000)
+  access-word Set true = by-line (access Set true a d x) (accessTold 10) (known (access Set true a d x) 10 refl) csrrsi refl refl refl refl refl (masks 0x6000)
+  access-word Clear true = by-line (access Clear true a d x) (accessTold 11) (known (access Clear true a d x) 11 refl) csrrci refl refl refl refl refl (masks 0x7000)
 
 -- f | (b << 20) | (a << 15) | 0x73
 abbrev pub fenceWord : ℕ → ℕ → ℕ → ℕ
 fenceWord f a b = bitOr (bitOr (bitOr f ((b * 2 ^ 20) % 2 ^ 64)) ((a * 2 ^ 15) % 2 ^ 64)) 0x73
 
 module _ (a b : ℕ) (la : a ≤ 31) (lb : b ≤ 31) where
-  fence-fits : ltb b (2 ^ 5) && ltb a (2 ^ 5) && true && true ≡ true
-  fence-fits = join (join (join (lt-ltb b (2 ^ 5) (omega arith)) (lt-ltb a (2 ^ 5) (omega arith))) refl) refl
+  abbrev fenceTold : ℕ → Operand → Told
+  fenceTold k = told k (exactly 0) (such (under 5 ∷ [])) (such (under 5 ∷ [])) (exactly 0)
+
+  fence-known : (s : Shape) (k : ℕ) → operandsOf s ≡ operands k 0 a b 0 → (y : Operand) → KnownAs (operandsOf s y) (fenceTold k y)
+  fence-known s k e =
+      subst (λ (env : Operand → ℕ). (y : Operand) → KnownAs (env y) (fenceTold k y)) (sym e)
+      (elim [ imm ↦ tt | rd ↦ refl | rs1 ↦ (omega arith, tt) | rs2 ↦ (omega arith, tt) | funct ↦ refl | csr ↦ refl | short ↦ refl ])
 
   fence-masks : (f : ℕ) → fenceWord f a b ≡ fenceWord f (bitAnd a 31) (bitAnd b 31)
   fence-masks f = λ j. fenceWord f (unmasked 5 a (omega arith) j) (unmasked 5 b (omega arith) j)
 
   pub fence-word : (f : Fence) → Word (fenceWord (funct7 f * 2 ^ 25) a b) ≡ writeOf system speech (fence f a b)
-  fence-word Vma = by-line 3 tt (fence Vma a b) fence-fits refl refl refl (fence-masks (funct7 Vma * 2 ^ 25))
-  fence-word Vvma = by-line 4 tt (fence Vvma a b) fence-fits refl refl refl (fence-masks (funct7 Vvma * 2 ^ 25))
-  fence-word Gvma = by-line 5 tt (fence Gvma a b) fence-fits refl refl refl (fence-masks (funct7 Gvma * 2 ^ 25))
+  fence-word Vma = by-line (fence Vma a b) (fenceTold 3) (fence-known (fence Vma a b) 3 refl) sfence-vma refl refl refl refl refl (fence-masks (funct7 Vma * 2 ^ 25))
+  fence-word Vvma = by-line (fence Vvma a b) (fenceTold 4) (fence-known (fence Vvma a b) 4 refl) hfence-vvma refl refl refl refl refl (fence-masks (funct7 Vvma * 2 ^ 25))
+  fence-word Gvma = by-line (fence Gvma a b) (fenceTold 5) (fence-known (fence Gvma a b) 5 refl) hfence-gvma refl refl refl refl refl (fence-masks (funct7 Gvma * 2 ^ 25))

@@ -1,15 +1,20 @@
 -- What a table tells of the words that it accepts, and that two tables accept no word in common. Assumes nothing.
-use mathlib.Core.Path.{_≡_, sym, subst, _∙_}
-use mathlib.Core.Bool.{Bool, true, false, _&&_, _||_, false≢true}
-use mathlib.Core.List.{List, [], _∷_}
-use Prim.Native.Nat.{ℕ}
-use borrow.Author.Tests.{eqb-true}
-use lib.Dec.{eqb}
-use Rattle.forms.specs.Layout.{Layout, const, take, given, avoid, all, bits, width, matches, read, readable}
-use Rattle.forms.specs.Table.{Kind, form, first, ofWord, clash}
+use mathlib.Core.Path.{_≡_, refl, sym, subst}
+use mathlib.Core.Bool.{Bool, true, _&&_}
+use mathlib.Core.List.{List, [], _∷_, _++_}
+use mathlib.Core.Logic.{_⊎_, inl, inr}
+use Prim.Native.Nat.{ℕ, _^_, _<_}
+use native.Mathlib.Nat.{lt-of-lt-of-le}
+use borrow.Author.Tests.{eqb-true, leb-true}
+use lib.Dec.{eqb, leb, ltb}
+use lib.Pow.{pow-mono}
+use Rattle.forms.specs.Layout.{Layout, const, take, given, avoid, Operand, all, every, bits, width, size, matches, spares, read, readable}
+use Rattle.forms.specs.Table.{Kind, form, none, first, spread, ofWord, clash, sound}
 use Rattle.forms.specs.Speech.{Speech, Every, readAs, readOf}
-use Rattle.utils.proofs.Tests.{both, either, on}
-use Rattle.forms.proofs.Table.{no-form, word-once}
+use Rattle.utils.proofs.Tests.{both, on}
+use Rattle.forms.proofs.Laws.{read-lt, every-at}
+use Rattle.forms.proofs.Table.{no-form, first-all, found-good, word-has, word-once}
+use Rattle.forms.proofs.Facts.{Fact, Known, tells, tells-has, field-is, shuts, shut}
 
 -- what each line says of what it reads, holds of an instruction that is accepted
 pub by-lines : {I : Type 0} (S : Speech I) (w : ℕ) (P : I → Type 0) (T : List Layout) → Every (λ L. readable w L ≡ true → P (S .make (read L w))) T → (i : I) → readOf T S w ≡ form i → P i
@@ -37,24 +42,81 @@ not-both T U R S w i j e p q =
 
 -- the n bits of the word from bit k on are v, as the layout has it
 abbrev pub fixes : ℕ → ℕ → ℕ → Layout → Bool
-fixes k n v [] = false
-fixes k n v (const m u ∷ L) = (eqb (width L) k && (eqb m n && eqb u v)) || fixes k n v L
-fixes k n v (take x m a ∷ L) = fixes k n v L
-fixes k n v (given x m a u ∷ L) = fixes k n v L
-fixes k n v (avoid x m a u ∷ L) = fixes k n v L
+fixes k n v L = ltb v (2 ^ n) && tells (ofWord L) (spread n k v [])
 
-pub fixed : (k n v w : ℕ) (L : Layout) → fixes k n v L ≡ true → matches L w ≡ true → bits w k n ≡ v
-fixed k n v w [] e m = absurd (false≢true e)
-fixed k n v w (const a u ∷ L) e m =
-    let t = both (matches L w) (eqb (bits w (width L) a) u) m in
-    either (eqb (width L) k && (eqb a n && eqb u v)) (fixes k n v L) e
-    (λ f.
-    let g = both (eqb (width L) k) (eqb a n && eqb u v) f in
-    let h = both (eqb a n) (eqb u v) (g .1) in
-    let at : width L ≡ k = eqb-true _ _ (g .0) in
-    let long : a ≡ n = eqb-true _ _ (h .0) in
-    (λ j. bits w (sym at j) (sym long j)) ∙ eqb-true _ _ (t .1) ∙ eqb-true _ _ (h .1))
-    (λ f. fixed k n v w L f (t .0))
-fixed k n v w (take x a b ∷ L) e m = fixed k n v w L e m
-fixed k n v w (given x a b u ∷ L) e m = fixed k n v w L e m
-fixed k n v w (avoid x a b u ∷ L) e m = fixed k n v w L e m
+pub fixed : (k n v w : ℕ) (L : Layout) → fixes k n v L ≡ true → readable w L ≡ true → bits w k n ≡ v
+fixed k n v w L e r =
+    let t = both (ltb v (2 ^ n)) (tells (ofWord L) (spread n k v [])) e in
+    field-is w n k v [] (t .0) (tells-has w (ofWord L) (spread n k v []) (word-has w L (both (matches L w) (spares L (read L w)) r .0)) (t .1))
+
+-- ---- the fields that a layout fixes, and the words that a table accepts by them
+abbrev pub Fixed : Layout → ℕ → Type 0
+Fixed [] w = Unit {0}
+Fixed (const n v ∷ L) w = (bits w (width L) n ≡ v) × Fixed L w
+Fixed (take x n a ∷ L) w = Fixed L w
+Fixed (given x n a v ∷ L) w = Fixed L w
+Fixed (avoid x n a v ∷ L) w = Fixed L w
+
+pub fields-of : (L : Layout) (w : ℕ) → matches L w ≡ true → Fixed L w
+fields-of [] w m = tt
+fields-of (const n v ∷ L) w m = let t = both (matches L w) (eqb (bits w (width L) n) v) m in (eqb-true _ _ (t .1), fields-of L w (t .0))
+fields-of (take x n a ∷ L) w m = fields-of L w m
+fields-of (given x n a v ∷ L) w m = fields-of L w m
+fields-of (avoid x n a v ∷ L) w m = fields-of L w m
+
+-- of some line the word has all fields, and its operands are not what they must not be
+abbrev pub Words : List Layout → ℕ → Type 0
+Words [] w = ⊥
+Words (L ∷ T) w = (Fixed L w × (spares L (read L w) ≡ true)) ⊎ Words T w
+
+pub accepted : {I : Type 0} (T : List Layout) (S : Speech I) (w : ℕ) (i : I) → readOf T S w ≡ form i → Words T w
+accepted {I} T S w i = go T (S .why w)
+  where
+    go : (T : List Layout) (n : ℕ) → readAs S w (first (readable w) T n) ≡ form i → Words T w
+    go [] n = λ q. no-form n i q
+    go (L ∷ T) n =
+        on (λ (k : Kind Layout). readAs S w k ≡ form i → Words (L ∷ T) w) (readable w L)
+        (λ e _. let t = both (matches L w) (spares L (read L w)) e in inl (fields-of L w (t .0), t .1)) (λ _ q. inr (go T n q))
+
+-- lines that do not read a word are passed over
+abbrev pub Unread : ℕ → List Layout → Type 0
+Unread w T = Every (λ L. readable w L ≡ true → ⊥) T
+
+pub passed : (w : ℕ) (T U : List Layout) (n : ℕ) → Unread w T → first (readable w) (T ++ U) n ≡ first (readable w) U n
+passed w [] U n h = refl
+passed w (L ∷ T) U n h = on (λ (k : Kind Layout). k ≡ first (readable w) U n) (readable w L) (λ e. absurd (h .0 e)) (λ _. passed w T U n (h .1))
+
+pub unread : (w : ℕ) (fs : List Fact) → Known w fs → (T : List Layout) → all (shuts fs) T ≡ true → Unread w T
+unread w fs h T e = by-test (shuts fs) (shut w fs h) T e
+
+-- a word that is refused has the table's number
+pub number-is : {I : Type 0} (T : List Layout) (S : Speech I) (w n : ℕ) → readOf T S w ≡ none n → S .why w ≡ n
+number-is T S w n = go T
+  where
+    go : (U : List Layout) → readAs S w (first (readable w) U (S .why w)) ≡ none n → S .why w ≡ n
+    go [] = λ q. cc
+    go (L ∷ U) =
+        on (λ (k : Kind Layout). readAs S w k ≡ none n → S .why w ≡ n) (readable w L)
+        (λ _ q. no-form n (S .make (read L w)) (sym q)) (λ _ q. go U q)
+
+-- ---- the operands of an instruction that is read: each has no more bits than `room` says
+abbrev pub roomy : (Operand → ℕ) → Layout → Bool
+roomy room L = every (λ x. leb (size L x) (room x))
+
+pub record Made {I : Type 0} (S : Speech I) (room : Operand → ℕ) (i : I) : Type 0 where
+  pub env : Operand → ℕ
+  pub same : S .make env ≡ i
+  pub low : (x : Operand) → env x < 2 ^ room x
+
+pub made-of : {I : Type 0} (T : List Layout) (S : Speech I) (room : Operand → ℕ) → sound T ≡ true → all (roomy room) T ≡ true → (w : ℕ) (i : I) → readOf T S w ≡ form i → Made S room i
+made-of {I} T S room ok r w i = go (first (readable w) T (S .why w)) refl
+  where
+    go : (k : Kind Layout) → first (readable w) T (S .why w) ≡ k → readAs S w k ≡ form i → Made S room i
+    go (form L) e q = record {
+      env = read L w;
+      same = (cc);
+      low = λ x.
+          lt-of-lt-of-le (read-lt L (found-good T ok (readable w) (S .why w) L e) w x)
+          (pow-mono (leb-true (size L x) (room x) (every-at (λ y. leb (size L y) (room y)) (first-all (roomy room) (readable w) T (S .why w) L r e) x)));
+    }
+    go (none n) e q = no-form n i q

@@ -15,8 +15,8 @@ use Rattle.forms.specs.Table.{Kind, form, none, first, distinct, sound}
 use Rattle.forms.specs.Speech.{Speech, Speaks, Says, Every, Faithful, listed, roomOf, within, put, readAs, readOf, writeAs, writeOf, lits, below, fitted, limited}
 use Rattle.forms.specs.Demand3.{OnlyWord, RefusedExactly}
 use Rattle.utils.proofs.Tests.{both, either, on}
-use Rattle.forms.proofs.Laws.{every-at, read-lt}
-use Rattle.forms.proofs.Table.{no-form, same-form, read-back, write-back}
+use Rattle.forms.proofs.Laws.{every-at, read-lt, read-holds, readable-chosen, chosen-back, chosen-readable, build-lt}
+use Rattle.forms.proofs.Table.{no-form, same-form, first-true, found-good, same-line, read-back, write-back}
 use Rattle.forms.proofs.AnyReader.{no-word, refused-by, only-by}
 use Rattle.forms.proofs.Codes.{within-is, put-is}
 
@@ -87,6 +87,22 @@ module _ {I : Type 0} (T : List Layout) (S : Speech I) (ok : sound T ≡ true) (
     where
       go : (k : Kind Layout) → first (readable w) T (S .why w) ≡ k → readAs S w k ≡ form i → w < roomOf (S .is-short i) → writeOf T S i ≡ Word w
       go (form L) e q = let same : S .make (read L w) ≡ i = cc in subst (λ (x : I). w < roomOf (S .is-short x) → writeOf T S x ≡ Word w) same (again w L e)
+      go (none n) e q = no-form n i q
+
+  -- what is read can be written, whatever bits the word has above its line's: the word without them is read the same
+  pub writable : (w : ℕ) (i : I) → readOf T S w ≡ form i → (x : ℕ) × (writeOf T S i ≡ Word x)
+  writable w i = go (first (readable w) T (S .why w)) refl
+    where
+      go : (k : Kind Layout) → first (readable w) T (S .why w) ≡ k → readAs S w k ≡ form i → (x : ℕ) × (writeOf T S i ≡ Word x)
+      go (form L) e q =
+          let g = found-good T ok (readable w) (S .why w) L e in
+          let v = build L (read L w) in
+          let c = readable-chosen L g w (first-true (readable w) T (S .why w) L e) in
+          let f = same-line T ok w v (S .why w) (S .why v) L e (chosen-readable L g (read L w) c (read-holds L g w imm)) in
+          let made : S .make (read L w) ≡ i = cc in
+          let is : S .make (read L v) ≡ i = ap (S .make) (chosen-back L g (read L w) c (read-holds L g w imm)) ∙ made in
+          let room : 2 ^ width L ≡ roomOf (S .is-short i) = sym (says-of (readable w) (S .why w) L e v .room) ∙ ap (λ (j : I). roomOf (S .is-short j)) is in
+          (v, read-then-write v i (ap (readAs S v) f ∙ ap form is) (subst (λ (n : ℕ). v < n) room (build-lt L g (read L w))))
       go (none n) e q = no-form n i q
 
   -- the word that an instruction is written as is in its room, and is read as the instruction

@@ -1,8 +1,10 @@
 pub mod Tests
 pub mod Laws
 pub mod Table
-pub mod Accepts
 pub mod Shifts
+pub mod Facts
+pub mod Choices
+pub mod Accepts
 pub mod AnyReader
 pub mod Codes
 pub mod Demand3

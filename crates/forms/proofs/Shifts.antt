@@ -23,7 +23,7 @@ abbrev pub shifted : ℕ → ℕ → ℕ
 shifted d zero = d
 shifted d (suc a) = (d * 2 ^ suc a) % 2 ^ 64
 
-masked-is : (w k n : ℕ) → masked w k n ≡ bits w k n
+pub masked-is : (w k n : ℕ) → masked w k n ≡ bits w k n
 masked-is w zero n = and-mask w n
 masked-is w (suc k) n = mask-field w (suc k) n
 

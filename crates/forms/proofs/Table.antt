@@ -10,7 +10,6 @@ use lib.Dec.{eqb}
 use lib.Pow.{field, shr-shr, mod-mod-pow}
 use Rattle.forms.specs.Layout.{Layout, const, take, given, avoid, Operand, imm, others, all, bits, width, matches, build, read, spares, Piece, piece, from, lit, pieces, holds, readable, chosen, good}
 use Rattle.forms.specs.Table.{Kind, form, none, first, any, Bit, bit, spread, ofWord, ofPieces, differs, clash, apart, distinct, sound}
-use Rattle.forms.specs.Speech.{Speech, readAs, readOf, writeAs, writeOf}
 use Rattle.utils.proofs.Tests.{both, either, on}
 use Rattle.forms.proofs.Tests.{not-any}
 use Rattle.forms.proofs.Laws.{Held, holds-true, read-build, read-holds, build-lt, readable-chosen, chosen-back, chosen-readable}
@@ -22,7 +21,7 @@ no-form n f q = let z : _≡_ {A = ℕ} 0 1 = cc in absurd (omega arith)
 pub same-form : (L M : Layout) → form L ≡ form M → L ≡ M
 same-form L M e = cc
 
-first-true : (p : Layout → Bool) (T : List Layout) (n : ℕ) (L : Layout) → first p T n ≡ form L → p L ≡ true
+pub first-true : (p : Layout → Bool) (T : List Layout) (n : ℕ) (L : Layout) → first p T n ≡ form L → p L ≡ true
 first-true p [] n L = λ q. no-form n L q
 first-true p (M ∷ T) n L =
     on (λ (k : Kind Layout). k ≡ form L → p L ≡ true) (p M) (λ e q. subst (λ (N : Layout). p N ≡ true) (same-form M L q) e) (λ _ q. first-true p T n L q)
@@ -53,7 +52,7 @@ first-none p (L ∷ T) n = go (p L) (first-none p T n)
     go false f e = f e
 
 -- ---- single bits
-bits-fld : (w k n : ℕ) → bits w k n ≡ w / 2 ^ k % 2 ^ n
+pub bits-fld : (w k n : ℕ) → bits w k n ≡ w / 2 ^ k % 2 ^ n
 bits-fld w zero n = ap (λ (x : ℕ). x % 2 ^ n) (sym (div-one w))
 bits-fld w (suc k) n = refl
 
@@ -67,18 +66,18 @@ sub w k n i l =
     whole = omega arith
 
 -- v has these bits
-abbrev Has : ℕ → List Bit → Type 0
+abbrev pub Has : ℕ → List Bit → Type 0
 Has v [] = Unit {0}
 Has v (bit k u ∷ ks) = (bits v k 1 ≡ u) × Has v ks
 
-spread-has : (w n k v : ℕ) (r : List Bit) → bits w k n ≡ v → Has w r → Has w (spread n k v r)
+pub spread-has : (w n k v : ℕ) (r : List Bit) → bits w k n ≡ v → Has w r → Has w (spread n k v r)
 spread-has w n k v r e g = go n (λ i l. sub w k n i l ∙ ap (λ (x : ℕ). bits x i 1) e)
   where
     go : (m : ℕ) → ((i : ℕ) → i < m → bits w (k + i) 1 ≡ bits v i 1) → Has w (spread m k v r)
     go zero h = g
     go (suc m) h = (h m (omega arith), go m (λ i l. h i (omega arith)))
 
-word-has : (w : ℕ) (L : Layout) → matches L w ≡ true → Has w (ofWord L)
+pub word-has : (w : ℕ) (L : Layout) → matches L w ≡ true → Has w (ofWord L)
 word-has w [] m = tt
 word-has w (const n v ∷ L) m =
     let t = both (matches L w) (eqb (bits w (width L) n) v) m in
@@ -87,7 +86,7 @@ word-has w (take x n a ∷ L) m = word-has w L m
 word-has w (given x n a v ∷ L) m = word-has w L m
 word-has w (avoid x n a v ∷ L) m = word-has w L m
 
-pieces-have : (v : ℕ) (ps : List Piece) → Held v ps → Has v (ofPieces ps)
+pub pieces-have : (v : ℕ) (ps : List Piece) → Held v ps → Has v (ofPieces ps)
 pieces-have v [] h = tt
 pieces-have v (piece n a (from k) ∷ ps) h = pieces-have v ps (h .1)
 pieces-have v (piece n a (lit u) ∷ ps) h = spread-has v n a u (ofPieces ps) (h .0) (pieces-have v ps (h .1))
@@ -101,7 +100,7 @@ differs-not w k v (bit j u ∷ ks) h g e =
     eqb-false u v (not-true (eqb u v) (t .1)) (sym (g .0) ∙ ap (λ (i : ℕ). bits w i 1) (eqb-true j k (t .0)) ∙ h))
     (λ q. differs-not w k v ks h (g .1) q)
 
-clash-not : (w : ℕ) (js ks : List Bit) → Has w js → Has w ks → clash js ks ≡ true → ⊥
+pub clash-not : (w : ℕ) (js ks : List Bit) → Has w js → Has w ks → clash js ks ≡ true → ⊥
 clash-not w [] ks h g e = false≢true e
 clash-not w (bit k v ∷ js) ks h g e =
     either (differs k v ks) (clash js ks) e (λ q. differs-not w k v ks (h .0) g q) (λ q. clash-not w js ks (h .1) g q)
@@ -156,41 +155,6 @@ module _ (T : List Layout) (ok : sound T ≡ true) where
         (chosen-back L g env v i, build-lt L g env),
       )
 
--- ---- the line of a table that tests show is the line found: line k, from 0 on
-abbrev pub row : List Layout → ℕ → Layout
-row [] k = []
-row (L ∷ T) zero = L
-row (L ∷ T) (suc k) = row T k
-
-abbrev pub Inside : List Layout → ℕ → Type 0
-Inside [] k = ⊥
-Inside (L ∷ T) zero = Unit {0}
-Inside (L ∷ T) (suc k) = Inside T k
-
-row-all : (f : Layout → Bool) (T : List Layout) (k : ℕ) → Inside T k → all f T ≡ true → f (row T k) ≡ true
-row-all f [] k h e = absurd h
-row-all f (L ∷ T) zero h e = both (all f T) (f L) e .1
-row-all f (L ∷ T) (suc k) h e = row-all f T k h (both (all f T) (f L) e .0)
-
--- p is `readable w` or `chosen env`
-row-first : (p : Layout → Bool) (T : List Layout) (n k : ℕ) → Inside T k → distinct T ≡ true → ((M : Layout) → apart M (row T k) ≡ true → p M ≡ true → ⊥) → p (row T k) ≡ true
-    → first p T n ≡ form (row T k)
-row-first p [] n k h d ex r = absurd h
-row-first p (M ∷ T) n zero h d ex r = ap (λ (b : Bool). cond b (form M) (first p T n)) r
-row-first p (M ∷ T) n (suc k) h d ex r =
-    let t = both (all (apart M) T) (distinct T) d in
-    on (λ (x : Kind Layout). x ≡ form (row T k)) (p M) (λ q. absurd (ex M (row-all (apart M) T k h (t .0)) q)) (λ _. row-first p T n k h (t .1) ex r)
-
-pub row-read : (T : List Layout) (w n k : ℕ) → Inside T k → distinct T ≡ true → readable w (row T k) ≡ true → first (readable w) T n ≡ form (row T k)
-row-read T w n k h d r = row-first (readable w) T n k h d (λ M a q. readable-once w (row T k) M r a q) r
-
-pub row-write : (T : List Layout) (env : Operand → ℕ) (n k : ℕ) → Inside T k → distinct T ≡ true → chosen env (row T k) ≡ true → first (chosen env) T n ≡ form (row T k)
-row-write T env n k h d r = row-first (chosen env) T n k h d (λ M a q. chosen-once env (row T k) M r a q) r
-
--- and it reads the word, or writes the instruction
-module _ {I : Type 0} (T : List Layout) (S : Speech I) (k : ℕ) (h : Inside T k) (d : distinct T ≡ true) where
-  pub row-reads : (w : ℕ) → readable w (row T k) ≡ true → readOf T S w ≡ readAs S w (form (row T k))
-  row-reads w r = ap (readAs S w) (row-read T w (S .why w) k h d r)
-
-  pub row-writes : (i : I) → chosen (S .ops i) (row T k) ≡ true → writeOf T S i ≡ writeAs S i (form (row T k))
-  row-writes i r = ap (writeAs S i) (row-write T (S .ops i) (S .why-not i) k h d r)
+  -- a line that reads a word reads every word of the line
+  pub same-line : (w v n m : ℕ) (L : Layout) → first (readable w) T n ≡ form L → readable v L ≡ true → first (readable v) T m ≡ form L
+  same-line w v n m L e r = first-too (readable w) (readable v) T n m L (λ M a q. readable-once v L M r a q) (sound-parts .1) e r

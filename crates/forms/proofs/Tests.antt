@@ -11,6 +11,10 @@ module _ {A : Type 0} (p : A → Bool) where
   all-of [] h = refl
   all-of (x ∷ xs) h = join (all-of xs h) (h x)
 
+  pub all-by : (q : A → Bool) → ((x : A) → p x ≡ true → q x ≡ true) → (xs : List A) → all p xs ≡ true → all q xs ≡ true
+  all-by q h [] e = refl
+  all-by q h (x ∷ xs) e = let t = both (all p xs) (p x) e in join (all-by q h xs (t .0)) (h x (t .1))
+
   -- what cannot pass where q and r pass
   pub not-any : (q r : A → Bool) (xs : List A) → all q xs ≡ true → all r xs ≡ true → ((x : A) → q x ≡ true → r x ≡ true → p x ≡ true → ⊥) → any p xs ≡ true → ⊥
   not-any q r [] e f h a = false≢true a

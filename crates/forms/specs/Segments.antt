@@ -1,7 +1,7 @@
 -- The words in which a layout is written, joined by `++`: first the word's bits from the highest down, then what the word does not hold.
-use Prim.Native.Nat.{ℕ}
+use Prim.Native.Nat.{ℕ, _+_, _-_}
 use mathlib.Core.List.{[], _∷_}
-use Rattle.forms.specs.Layout.{Layout, const, take, given, avoid, Operand, imm, funct, short}
+use Rattle.forms.specs.Layout.{Layout, const, take, given, avoid, Operand, imm, short}
 
 -- ---- bits of the word
 -- n bits that are v
@@ -12,9 +12,12 @@ fix n v = const n v ∷ []
 abbrev pub field : Operand → ℕ → Layout
 field x n = take x n 0 ∷ []
 
--- the immediate's n bits from bit a on
-abbrev pub im : ℕ → ℕ → Layout
-im n a = take imm n a ∷ []
+-- the immediate's bits h down to l, as the manuals name them: where it is unsigned, and where it is signed
+abbrev pub uimm : ℕ → ℕ → Layout
+uimm h l = take imm (h + 1 - l) l ∷ []
+
+abbrev pub simm : ℕ → ℕ → Layout
+simm h l = uimm h l
 
 -- a register
 abbrev pub reg : Operand → Layout
@@ -33,22 +36,21 @@ equal x n v = given x n 0 v ∷ []
 abbrev pub except : Operand → ℕ → ℕ → Layout
 except x n v = avoid x n 0 v ∷ []
 
--- the immediate is a multiple of 2 ^ n
-abbrev pub step : ℕ → Layout
-step n = equal imm n 0
+-- the immediate's bits below bit n are 0: it is a multiple of 2 ^ n
+abbrev pub zero-below : ℕ → Layout
+zero-below n = equal imm n 0
 
 -- the register x is v
 abbrev pub is : Operand → ℕ → Layout
 is x v = equal x 5 v
 
 -- the register x is not x0
-abbrev pub some : Operand → Layout
-some x = except x 5 0
+abbrev pub not-x0 : Operand → Layout
+not-x0 x = except x 5 0
 
--- the word has 32 bits
+-- the word has 32 bits, or 16
 abbrev pub long : Layout
 long = equal short 1 0
 
--- the word has 16 bits, and does what funct f, of n bits, says
-abbrev pub like : ℕ → ℕ → Layout
-like n f = given funct n 0 f ∷ given short 1 0 1 ∷ []
+abbrev pub compressed : Layout
+compressed = equal short 1 1

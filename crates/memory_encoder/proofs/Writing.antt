@@ -1,9 +1,13 @@
 -- What the code's tests say of writing by the tables of loads and stores, over plain numbers. Assumes nothing.
 use mathlib.Core.Path.{_≡_, refl, sym, ap, _∙_}
-use mathlib.Core.Bool.{Bool, true, false, _&&_, cond}
+use mathlib.Core.Bool.{Bool, true, false, _&&_, _||_, not, cond}
+use mathlib.Core.List.{List, [], _∷_}
+use mathlib.Core.Logic.{⊎-elim}
 use Prim.Native.Nat.{ℕ, _+_, _/_, _%_, _^_, _≤_, _<_}
 use native.Mathlib.Omega.{arith}
-use borrow.Author.Tests.{eq-eqb, ne-eqb, lt-ltb, le-ltb, le-leb, lt-leb, eqb-true, eqb-false}
+use borrow.Author.Tests.{lt-ltb, le-leb, lt-leb}
+use denote.Enum.Declared.{tagOf}
+use types.Run.{OneOf}
 use lib.Dec.{eqb, leb, ltb}
 use lib.IntN.{ℤ}
 use mir.Syntax.{w64}
@@ -14,37 +18,99 @@ use Rattle.utils.specs.declared.Code.{Code}
 use Rattle.utils.specs.declared.Code.the-variants.{Is, Out}
 use Rattle.utils.specs.declared.Width.{Width}
 use Rattle.utils.specs.declared.Width.the-variants.{Byte, Byte2, Byte4, Byte8}
-use Rattle.utils.proofs.Signed.{by-test, lt-or-le, code-is}
+use Rattle.utils.proofs.Signed.{code-is}
+use Rattle.utils.proofs.Width.{the-type}
 use Rattle.forms.specs.declared.Wrote.{Wrote}
 use Rattle.forms.specs.declared.Wrote.the-variants.{Word, Refused}
-use Rattle.forms.specs.Layout.{Layout, imm, holds, build}
-use Rattle.forms.specs.Speech.{within, put, writeOf, writeAs}
-use Rattle.forms.specs.Table.{form, none}
+use Rattle.forms.specs.Layout.{Layout, Operand, imm, rd, rs1, rs2, funct, csr, short, all, holds, build}
+use Rattle.forms.specs.Speech.{Speech, bitOf, within, put, writeOf, writeAs}
+use Rattle.forms.specs.Table.{first}
 use Rattle.forms.proofs.Codes.{within-is, code-twos}
+use Rattle.forms.proofs.Facts.{is, isnt, under, over}
+use Rattle.forms.proofs.Choices.{Told, exactly, such, KnownAs, picks, drops, by-operands}
 use Rattle.memory_decoder.specs.declared.LoadInstr.{LoadInstr}
 use Rattle.memory_decoder.specs.declared.StoreInstr.{StoreInstr}
-use Rattle.memory_decoder.specs.Forms.{loads, stores, c-lw, c-ld, c-sw, c-sd}
-use Rattle.memory_decoder.specs.Funct3.{sizeOf}
+use Rattle.memory_decoder.specs.Forms.{loads, stores, c-word, c-double, c-lw, c-ld, c-sw, c-sd}
+use Rattle.memory_decoder.specs.Funct3.{sizeOf, funct3Of}
 use Rattle.memory_decoder.specs.Load as Load
 use Rattle.memory_decoder.specs.Store as Store
-use Rattle.memory_encoder.specs.LoadStore.{under, shorts, parts, stepped}
+use Rattle.memory_encoder.specs.LoadStore.{Compressed, parts, stepped}
 
-pub and-false : (b : Bool) → (b && false) ≡ false
+and-false : (b : Bool) → (b && false) ≡ false
 and-false true = refl
 and-false false = refl
 
--- a register of three bits, as the lines test it and as the code does
-abbrev eightOf : ℕ → Bool
-eightOf x = eqb (x / 8 % 2) 1 && ltb x 16
+-- ---- what is known of the operands settles the line: of the register, the base, funct and `short`
+abbrev loadTold : Told → Told → Told → Told → Operand → Told
+loadTold r b f s imm = such []
+loadTold r b f s rd = r
+loadTold r b f s rs1 = b
+loadTold r b f s rs2 = exactly 0
+loadTold r b f s funct = f
+loadTold r b f s csr = exactly 0
+loadTold r b f s short = s
 
-pub popular : (x : ℕ) → eightOf x ≡ eqb (x / 8) 1
-popular x = by-test (eqb (x / 8) 1) (λ e. yes (eqb-true _ _ e)) (λ e. not-so (eqb-false _ _ e))
-  where
-    yes : x / 8 ≡ 1 → eightOf x ≡ eqb (x / 8) 1
-    yes e = simp (eq-eqb (x / 8) 1 e, eq-eqb (x / 8 % 2) 1 (omega arith), lt-ltb x 16 (omega arith))
+abbrev storeTold : Told → Told → Told → Told → Operand → Told
+storeTold r b f s imm = such []
+storeTold r b f s rd = exactly 0
+storeTold r b f s rs1 = b
+storeTold r b f s rs2 = r
+storeTold r b f s funct = f
+storeTold r b f s csr = exactly 0
+storeTold r b f s short = s
 
-    not-so : (x / 8 ≡ 1 → ⊥) → eightOf x ≡ eqb (x / 8) 1
-    not-so e = lt-or-le x 16 (λ l. simp (ne-eqb (x / 8) 1 e, ne-eqb (x / 8 % 2) 1 (omega arith))) (λ l. simp (ne-eqb (x / 8) 1 e, le-ltb x 16 l, and-false))
+abbrev Settles : (Operand → Told) → List Layout → Type 0
+Settles ks T = all (λ L. drops ks L || picks ks L) T ≡ true
+
+module _ (r b f s : Told) where
+  pub load-line : (i : LoadInstr) → KnownAs (i .rd .0) r → KnownAs (i .rs1 .0) b → KnownAs (funct3Of (i .len) (i .«is_unsigned»)) f → KnownAs (bitOf (i .«is_compressed»)) s
+      → Settles (loadTold r b f s) loads → writeOf loads Load.speech i ≡ writeAs Load.speech i (first (λ L. not (drops (loadTold r b f s) L)) loads (Load.whyNot i))
+  load-line i hr hb hf hs e =
+      by-operands loads Load.speech refl i (loadTold r b f s) (elim [ imm ↦ tt | rd ↦ hr | rs1 ↦ hb | rs2 ↦ refl | funct ↦ hf | csr ↦ refl | short ↦ hs ]) e
+
+  pub store-line : (i : StoreInstr) → KnownAs (i .rs2 .0) r → KnownAs (i .rs1 .0) b → KnownAs (sizeOf (i .len)) f → KnownAs (bitOf (i .«is_compressed»)) s
+      → Settles (storeTold r b f s) stores → writeOf stores Store.speech i ≡ writeAs Store.speech i (first (λ L. not (drops (storeTold r b f s) L)) stores (Store.whyNot i))
+  store-line i hr hb hf hs e =
+      by-operands stores Store.speech refl i (storeTold r b f s) (elim [ imm ↦ tt | rd ↦ refl | rs1 ↦ hb | rs2 ↦ hr | funct ↦ hf | csr ↦ refl | short ↦ hs ]) e
+
+-- nothing; a register; one above 31; one of the eight of three bits; none of them
+abbrev pub any : Told
+any = such []
+
+abbrev pub low : Told
+low = such (under 5 ∷ [])
+
+abbrev pub past : Told
+past = such (over 5 ∷ [])
+
+abbrev eight : Told
+eight = such (is 3 1 0b1 ∷ under 4 ∷ [])
+
+abbrev other : Told
+other = such (isnt 3 2 0b01 ∷ [])
+
+module _ (x : ℕ) where
+  pub is-low : x ≤ 31 → KnownAs x low
+  is-low h = (omega arith, tt)
+
+  pub is-past : 31 < x → KnownAs x past
+  is-past h = (omega arith, tt)
+
+  is-eight : x / 8 ≡ 1 → KnownAs x eight
+  is-eight e = (omega arith, (omega arith, tt))
+
+  is-other : x ≤ 31 → (x / 8 ≡ 1 → ⊥) → KnownAs x other
+  is-other h e = (λ q. e (omega arith), tt)
+
+-- the number of the refusal, by the two registers
+pub low-why : (x b : ℕ) → x ≤ 31 → b ≤ 31 → Refused 9 ≡ Refused (cond (leb x 31 && leb b 31) 9 6)
+low-why x b h l = simp (le-leb x 31 h, le-leb b 31 l)
+
+pub past-why : (x b : ℕ) → 31 < x → Refused 6 ≡ Refused (cond (leb x 31 && leb b 31) 9 6)
+past-why x b h = simp (lt-leb x 31 h)
+
+pub base-why : (x b : ℕ) → 31 < b → Refused 6 ≡ Refused (cond (leb x 31 && leb b 31) 9 6)
+base-why x b h = simp (lt-leb b 31 h, and-false)
 
 -- ---- the word of the code that was found
 -- the answer of the code's last match
@@ -82,71 +148,71 @@ module _ (L : Layout) (word : ℕ → ℕ) (z : ℤ) (fits : SFits w64 z) {c k :
       → r ≡ put (within L (codeDef 2048 z)) (word (twos 2048 z))
   put-step s l h e = put-row L word z q p (e ∙ ap (λ (y : ℤ). stepped s l (codeDef 2048 y)) (toZ-ofZ w64 z fits) ∙ within-step L s l h (codeDef 2048 z))
 
--- ---- compressed
-module _ (f x b : ℕ) (z : ℤ) where
-  abbrev Short : Width → Wrote
-  Short len = writeOf (shorts f) Load.speech (Load.mk x b z len true false)
+-- the line of the width w writes: len is the width, c what `offset` found, k the arm and r the arm's answer
+module _ {I : Type 0} (T : List Layout) (S : Speech I) (i : Width → I) (z : ℤ) (fits : SFits w64 z) {c k : Code} {r : Wrote} {len : Width} (q : c ≡ k) where
+  pub by-step : (w : Width) (L : Layout) (word : ℕ → ℕ) (s l : ℕ) → ((n : ℕ) → holds L imm n ≡ (eqb (n % s) 0 && ltb n l))
+      → writeOf T S (i w) ≡ put (within L (codeDef 2048 z)) (word (twos 2048 z)) → len ≡ w → c ≡ stepped s l (codeDef 2048 (toZ w64 (ofZ w64 z))) → r ≡ putCode word k → r ≡ writeOf T S (i len)
+  by-step w L word s l h line t o p = put-step L word z fits q p s l h o ∙ sym line ∙ ap (λ (v : Width). writeOf T S (i v)) (sym t)
 
+-- ---- compressed: by the same facts a load and a store
+module _ (f x b : ℕ) (z : ℤ) where
   -- what `offset` found is c, and k the arm; r is the arm's answer
   module _ (fits : SFits w64 z) (d : x / 8 ≡ 1) (e : b / 8 ≡ 1) {c k : Code} {r : Wrote} {len : Width} (q : c ≡ k) where
-    by-arm : (w : Width) (L : Layout) (g s l : ℕ) → ((n : ℕ) → holds L imm n ≡ (eqb (n % s) 0 && ltb n l)) → put (within L (codeDef 2048 z)) (build L (parts x b g (twos 2048 z))) ≡ Short w
-        → len ≡ w → c ≡ stepped s l (codeDef 2048 (toZ w64 (ofZ w64 z))) → r ≡ putCode (λ n. build L (parts x b g n)) k → r ≡ Short len
-    by-arm w L g s l h line t o p = put-step L (λ n. build L (parts x b g n)) z fits q p s l h o ∙ line ∙ ap Short (sym t)
+    by-arm : (w : Width) (word : ℕ → ℕ → ℕ) (L M : Layout) (s l : ℕ) → ((n : ℕ) → holds L imm n ≡ (eqb (n % s) 0 && ltb n l)) → ((n : ℕ) → holds M imm n ≡ (eqb (n % s) 0 && ltb n l))
+        → writeOf loads Load.speech (Load.mk x b z w true false) ≡ put (within L (codeDef 2048 z)) (word 0b010 (twos 2048 z))
+        → writeOf stores Store.speech (Store.mk x b z w true) ≡ put (within M (codeDef 2048 z)) (word 0b110 (twos 2048 z))
+        → len ≡ w → c ≡ stepped s l (codeDef 2048 (toZ w64 (ofZ w64 z))) → r ≡ putCode (word f) k → Compressed f x b z len r
+    by-arm w word L M s l h g load store t o p = record {
+      as-load = λ u.
+          by-step loads Load.speech (λ v. Load.mk x b z v true false) z fits q w L (word f) s l h
+          (load ∙ ap (λ (v : ℕ). put (within L (codeDef 2048 z)) (word v (twos 2048 z))) (sym u)) t o p;
+      as-store = λ u.
+          by-step stores Store.speech (λ v. Store.mk x b z v true) z fits q w M (word f) s l g
+          (store ∙ ap (λ (v : ℕ). put (within M (codeDef 2048 z)) (word v (twos 2048 z))) (sym u)) t o p;
+    }
 
-    pub word-arm : len ≡ Byte4 → c ≡ stepped 4 128 (codeDef 2048 (toZ w64 (ofZ w64 z))) → r ≡ putCode (λ n. build (under f c-lw) (parts x b f n)) k → r ≡ Short len
-    word-arm = by-arm Byte4 (under f c-lw) f 4 128 (λ n. refl) (simp (popular, eq-eqb (x / 8) 1 d, eq-eqb (b / 8) 1 e))
+    pub word-arm : len ≡ Byte4 → c ≡ stepped 4 128 (codeDef 2048 (toZ w64 (ofZ w64 z))) → r ≡ putCode (λ n. build (c-word f rd) (parts x b f n)) k → Compressed f x b z len r
+    word-arm =
+        by-arm Byte4 (λ g n. build (c-word g rd) (parts x b g n)) c-lw c-sw 4 128 (λ n. refl) (λ n. refl)
+        (load-line eight eight (exactly 2) (exactly 1) (Load.mk x b z Byte4 true false) (is-eight x d) (is-eight b e) refl refl refl)
+        (store-line eight eight (exactly 2) (exactly 1) (Store.mk x b z Byte4 true) (is-eight x d) (is-eight b e) refl refl refl)
 
-    pub double-arm : len ≡ Byte8 → c ≡ stepped 8 256 (codeDef 2048 (toZ w64 (ofZ w64 z))) → r ≡ putCode (λ n. build (under (f + 1) c-ld) (parts x b (f + 1) n)) k → r ≡ Short len
-    double-arm = by-arm Byte8 (under (f + 1) c-ld) (f + 1) 8 256 (λ n. refl) (simp (popular, eq-eqb (x / 8) 1 d, eq-eqb (b / 8) 1 e))
+    pub double-arm : len ≡ Byte8 → c ≡ stepped 8 256 (codeDef 2048 (toZ w64 (ofZ w64 z))) → r ≡ putCode (λ n. build (c-double (f + 1) rd) (parts x b (f + 1) n)) k → Compressed f x b z len r
+    double-arm =
+        by-arm Byte8 (λ g n. build (c-double (g + 1) rd) (parts x b (g + 1) n)) c-ld c-sd 8 256 (λ n. refl) (λ n. refl)
+        (load-line eight eight (exactly 3) (exactly 1) (Load.mk x b z Byte8 true false) (is-eight x d) (is-eight b e) refl refl refl)
+        (store-line eight eight (exactly 3) (exactly 1) (Store.mk x b z Byte8 true) (is-eight x d) (is-eight b e) refl refl refl)
 
   -- a width that no compressed form has, or a register that is none of the eight
   module _ (l : x ≤ 31) (m : b ≤ 31) where
-    pub no-width : (len : Width) → sizeOf len < 2 → Refused 9 ≡ Short len
-    no-width Byte h = simp (le-leb x 31 l, le-leb b 31 m)
-    no-width Byte2 h = simp (le-leb x 31 l, le-leb b 31 m)
-    no-width Byte4 h = absurd (omega arith)
-    no-width Byte8 h = absurd (omega arith)
+    refused : (len : Width) → writeOf loads Load.speech (Load.mk x b z len true false) ≡ Refused (Load.whyNot (Load.mk x b z len true false))
+        → writeOf stores Store.speech (Store.mk x b z len true) ≡ Refused (Store.whyNot (Store.mk x b z len true)) → Compressed f x b z len (Refused 9)
+    refused len load store = let w = low-why x b l m in record { as-load = λ _. w ∙ sym load; as-store = λ _. w ∙ sym store }
 
-    pub no-short : (len : Width) → (eqb (b / 8) 1 && eqb (x / 8) 1) ≡ false → Refused 9 ≡ Short len
-    no-short Byte e = no-width Byte (omega arith)
-    no-short Byte2 e = no-width Byte2 (omega arith)
-    no-short Byte4 e = simp (popular, e, le-leb x 31 l, le-leb b 31 m)
-    no-short Byte8 e = simp (popular, e, le-leb x 31 l, le-leb b 31 m)
+    pub no-width : (len : Width) → sizeOf len < 2 → Compressed f x b z len (Refused 9)
+    no-width len h =
+        refused len
+        (load-line any any (such (is 1 1 0b0 ∷ [])) (exactly 1) (Load.mk x b z len true false) tt tt (omega arith, tt) refl refl)
+        (store-line any any (such (is 1 1 0b0 ∷ [])) (exactly 1) (Store.mk x b z len true) tt tt (omega arith, tt) refl refl)
 
-module _ (x b : ℕ) (z : ℤ) where
-  -- no compressed load is unsigned
-  pub no-unsigned : x ≤ 31 → b ≤ 31 → (len : Width) → Refused 9 ≡ writeOf loads Load.speech (Load.mk x b z len true true)
-  no-unsigned l m Byte = simp (le-leb x 31 l, le-leb b 31 m)
-  no-unsigned l m Byte2 = simp (le-leb x 31 l, le-leb b 31 m)
-  no-unsigned l m Byte4 = simp (le-leb x 31 l, le-leb b 31 m)
-  no-unsigned l m Byte8 = simp (le-leb x 31 l, le-leb b 31 m)
+    pub no-register : (len : Width) → (x / 8 ≡ 1 → ⊥) → Compressed f x b z len (Refused 9)
+    no-register len e =
+        refused len
+        (load-line other any any (exactly 1) (Load.mk x b z len true false) (is-other x l e) tt tt refl refl)
+        (store-line other any any (exactly 1) (Store.mk x b z len true) (is-other x l e) tt tt refl refl)
 
-  -- what funct3 6 and 7 write are the compressed stores; the two tables test the registers in another order
-  module _ (len : Width) (L M : Layout) (s l : ℕ) (g : (n : ℕ) → holds L imm n ≡ (eqb (n % s) 0 && ltb n l)) (h : (n : ℕ) → holds M imm n ≡ (eqb (n % s) 0 && ltb n l)) where
-    either-way : (n : ℕ) → build L (Load.operandsOf (Load.mk x b z len true false)) ≡ build M (Store.operandsOf (Store.mk x b z len true)) → (d e : Bool)
-        → writeAs Load.speech (Load.mk x b z len true false) (cond ((e && d) && true) (form L) (none n))
-        ≡ writeAs Store.speech (Store.mk x b z len true) (cond (((d && e) && true) && true) (form M) (none n))
-    either-way n w true true = λ j. put ((sym (within-step L s l g (codeDef 2048 z)) ∙ within-step M s l h (codeDef 2048 z)) j) (w j)
-    either-way n w true false = refl
-    either-way n w false true = refl
-    either-way n w false false = refl
+    pub no-base : (len : Width) → (b / 8 ≡ 1 → ⊥) → Compressed f x b z len (Refused 9)
+    no-base len e =
+        refused len
+        (load-line any other any (exactly 1) (Load.mk x b z len true false) tt (is-other b m e) tt refl refl)
+        (store-line any other any (exactly 1) (Store.mk x b z len true) tt (is-other b m e) tt refl refl)
 
-  pub short-store : (len : Width) → writeOf (shorts 0b110) Load.speech (Load.mk x b z len true false) ≡ writeOf stores Store.speech (Store.mk x b z len true)
-  short-store Byte = refl
-  short-store Byte2 = refl
-  short-store Byte4 =
-      either-way Byte4 (under 0b110 c-lw) c-sw 4 128 (λ n. refl) (λ n. refl) (Store.whyNot (Store.mk x b z Byte4 true)) refl (eightOf x) (eightOf b)
-  short-store Byte8 =
-      either-way Byte8 (under 0b111 c-ld) c-sd 8 256 (λ n. refl) (λ n. refl) (Store.whyNot (Store.mk x b z Byte8 true)) refl (eightOf x) (eightOf b)
-
--- ---- a register above 31
-pub record High (x : ℕ) : Type 0 where
-  pub long : ltb x 32 ≡ false
-  pub short : ltb x 16 ≡ false
-  pub why : leb x 31 ≡ false
-
-pub high : (x : ℕ) → 31 < x → High x
-high x h = record { long = le-ltb x 32 h; short = le-ltb x 16 (omega arith); why = lt-leb x 31 h }
+-- ---- the last arm of a match on the width has the first two
+pub narrow : (len : Width) → OneOf (0 ∷ 1 ∷ []) (tagOf the-type len) → sizeOf len < 2
+narrow Byte q = omega arith
+narrow Byte2 q = omega arith
+narrow Byte4 q = absurd (⊎-elim (λ e. omega arith) (λ e. omega arith) q)
+narrow Byte8 q = absurd (⊎-elim (λ e. omega arith) (λ e. omega arith) q)
 
 -- ---- an instruction by its parts
 pub loaded : (i : LoadInstr) {c u : Bool} → i .«is_compressed» ≡ c → i .«is_unsigned» ≡ u → Load.mk (i .rd .0) (i .rs1 .0) (i .imm) (i .len) c u ≡ i

@@ -1,18 +1,20 @@
 -- What a load and a store are written as, by the tables that they are read by (`memory_decoder`): document 01's refusals 6, 9 and 10. After that, what
 -- the encoder's parts answer.
-use Prim.Native.Nat.{ℕ, _+_, _%_}
-use mathlib.Core.Bool.{_&&_, cond}
-use mathlib.Core.List.{List, [], _∷_}
+use Prim.Native.Nat.{ℕ, _%_}
+use mathlib.Core.Path.{_≡_}
+use mathlib.Core.Bool.{true, false, _&&_, cond}
 use lib.Dec.{eqb, ltb}
+use lib.IntN.{ℤ}
 use Rattle.utils.specs.declared.Code.{Code}
 use Rattle.utils.specs.declared.Code.the-variants.{Is, Out}
+use Rattle.utils.specs.declared.Width.{Width}
 use Rattle.profiles.specs.declared.Profile.{Profile}
 use Rattle.forms.specs.declared.Wrote.{Wrote}
-use Rattle.forms.specs.Layout.{Layout, const, Operand, imm, rd, rs1, rs2, funct, csr, short}
+use Rattle.forms.specs.Layout.{Operand, imm, rd, rs1, rs2, funct, csr, short}
 use Rattle.forms.specs.Speech.{writeOf}
 use Rattle.memory_decoder.specs.declared.LoadInstr.{LoadInstr}
 use Rattle.memory_decoder.specs.declared.StoreInstr.{StoreInstr}
-use Rattle.memory_decoder.specs.Forms.{loads, stores, c-lw, c-ld}
+use Rattle.memory_decoder.specs.Forms.{loads, stores}
 use Rattle.memory_decoder.specs.Load as Load
 use Rattle.memory_decoder.specs.Store as Store
 
@@ -34,14 +36,10 @@ parts x b f n funct = f
 parts x b f n csr = 0
 parts x b f n short = 0
 
--- a line that begins with funct3, under another funct3
-abbrev pub under : ℕ → Layout → Layout
-under f [] = []
-under f (s ∷ L) = const 3 f ∷ L
-
--- C.LW and C.LD for 2; for 6 C.SW and C.SD, with rd for their rs2
-abbrev pub shorts : ℕ → List Layout
-shorts f = under f c-lw ∷ under (f + 1) c-ld ∷ []
+-- what a compressed load or store of the register x is written as, by the funct3 f of its 32-bit form
+pub record Compressed (f x b : ℕ) (z : ℤ) (len : Width) (r : Wrote) : Type 0 where
+  pub as-load : f ≡ 0b010 → r ≡ writeOf loads Load.speech (Load.mk x b z len true false)
+  pub as-store : f ≡ 0b110 → r ≡ writeOf stores Store.speech (Store.mk x b z len true)
 
 -- a code that is a multiple of s below l
 abbrev pub stepped : ℕ → ℕ → Code → Code

@@ -2,14 +2,11 @@
 // numbers; what no word stands for is refused by document 01's numbers.
 ghost use mathlib.Core.Path.{_≡_};
 ghost use Prim.Native.Nat.{_≤_, _<_};
-ghost use mathlib.Core.Bool.{true, false};
 ghost use Rattle.utils.specs.Signed.{codeDef};
-ghost use Rattle.forms.specs.Layout.{build};
-ghost use Rattle.forms.specs.Speech.{writeOf};
-ghost use Rattle.memory_decoder.specs.Forms.{load, store, c-lw, c-ld};
+ghost use Rattle.forms.specs.Layout.{build, rd};
+ghost use Rattle.memory_decoder.specs.Forms.{load, store, c-word, c-double};
 ghost use Rattle.memory_decoder.specs.Funct3.{sizeOf, funct3Of};
-ghost use Rattle.memory_decoder.specs.Load.{speech, mk};
-ghost use Rattle.memory_encoder.specs.LoadStore.{encodeLoadDef, encodeStoreDef, parts, under, shorts, stepped};
+ghost use Rattle.memory_encoder.specs.LoadStore.{encodeLoadDef, encodeStoreDef, Compressed, parts, stepped};
 use forms::Wrote;
 use memory_decoder::LoadInstr;
 use memory_decoder::StoreInstr;
@@ -79,7 +76,7 @@ const HALF: u32 = 2048;
 // registers are x8 to x15.
 fn encode_compressed(func3: usize, reg: usize, base: usize, imm: isize, len: Width) -> Wrote
     requires { ⌜ (func3 < 7) × ((reg ≤ 31) × (base ≤ 31)) ⌝ }
-    ensures { λ r. ⌜ r ≡ writeOf (shorts func3) speech (mk reg base imm len true false) ⌝ }
+    ensures { λ r. ⌜ Compressed func3 reg base imm len r ⌝ }
 {
     if reg / 8 != 1 {
         return Wrote::Refused(9);
@@ -120,7 +117,7 @@ fn offset(imm: isize, step: usize, limit: usize) -> Code
 // C.LW and C.SW, by `func3`.
 fn compressed_word(func3: usize, reg: usize, base: usize, imm: usize) -> u64
     requires { ⌜ func3 < 8 ⌝ }
-    ensures { λ r. ⌜ r ≡ build (under func3 c-lw) (parts reg base func3 imm) ⌝ }
+    ensures { λ r. ⌜ r ≡ build (c-word func3 rd) (parts reg base func3 imm) ⌝ }
 {
     let imm_2 = (imm >> 2) & 0b1;
     let imm_5_3 = (imm >> 3) & 0b111;
@@ -136,7 +133,7 @@ fn compressed_word(func3: usize, reg: usize, base: usize, imm: usize) -> u64
 // C.LD and C.SD, by `func3`.
 fn compressed_double(func3: usize, reg: usize, base: usize, imm: usize) -> u64
     requires { ⌜ func3 < 8 ⌝ }
-    ensures { λ r. ⌜ r ≡ build (under func3 c-ld) (parts reg base func3 imm) ⌝ }
+    ensures { λ r. ⌜ r ≡ build (c-double func3 rd) (parts reg base func3 imm) ⌝ }
 {
     let imm_5_3 = (imm >> 3) & 0b111;
     let imm_7_6 = (imm >> 6) & 0b11;

@@ -2,27 +2,27 @@
 use mathlib.Core.Path.{_≡_, refl, sym, ap, _∙_}
 use mathlib.Core.Bool.{false}
 use mathlib.Core.List.{[], _∷_}
-use Prim.Native.Nat.{ℕ, _+_, _*_, _/_, _%_, _^_, _≤_}
+use Prim.Native.Nat.{ℕ, _+_, _*_, _/_, _%_, _^_, _≤_, _<_}
 use native.Mathlib.Nat.{mod-eq-of-lt, div-one}
 use native.Mathlib.Omega.{arith}
 use borrow.Author.Needs.{needs}
-use borrow.Author.Tests.{eq-eqb}
-use lib.Bits.{bitAnd, and-mask}
+use lib.Bits.{bitAnd}
 use lib.ListN.{getD}
 use lib.Pow.{mod-mod-pow}
 use Rattle.utils.specs.Field.{fld}
 use Rattle.utils.specs.Signed.{signed}
 use Rattle.utils.specs.declared.Width.the-variants.{Byte, Byte2, Byte4, Byte8}
 use Rattle.utils.proofs.Bits.{mask-field}
-use Rattle.utils.proofs.Digits.{halves}
+use Rattle.utils.proofs.Digits.{fld-lt, halves}
 use Rattle.forms.specs.Layout.{imm, pieces, read}
 use Rattle.forms.proofs.Laws.{read-lt}
 use Rattle.forms.proofs.Shifts.{orRead, gathered}
+use Rattle.forms.proofs.Facts.{is, isnt, seen, unseen}
 use Rattle.memory_decoder.specs.Forms.{store}
 use Rattle.memory_decoder.specs.Funct3.{widthOf}
 use Rattle.memory_decoder.specs.Store.{storeDef}
 use Rattle.utils.proofs.Signed.{kept}
-use Rattle.memory_decoder.proofs.Reading.{storing, reads, foreign, reserved, same-store}
+use Rattle.memory_decoder.proofs.Reading.{storing, reads, same-store}
 use Rattle.memory_decoder.proofs.decode_uncompressed_store.Statement.{statement}
 use Rattle.memory_decoder.proofs.decode_uncompressed_store.Tie as tie
 
@@ -42,13 +42,21 @@ module _ (w : ℕ) where
       go : (x y : ℕ) → bitAnd (w / 2 ^ 12) 7 ≡ x * 2 ^ 2 + y → x ≡ 0
       go x y e = omega arith
 
+  no-top-bit : 3 < bitAnd (w / 2 ^ 12) 7 → fld w 14 1 ≡ 0 → ⊥
+  no-top-bit h e = go (fld w 14 1) (fld w 12 2) (mask-field w 12 3 ∙ halves w 12 1 2) e (fld-lt w 12 2)
+    where
+      go : (x y : ℕ) → bitAnd (w / 2 ^ 12) 7 ≡ x * 2 ^ 2 + y → x ≡ 0 → y < 2 ^ 2 → ⊥
+      go x y e f l = omega arith
+
 pub decode-uncompressed-store-spec : {M : Type 1} → statement M
 unfolding storeDef
 decode-uncompressed-store-spec =
     tie.close
     (tie.spec
-    (λ c. foreign storing (c .before .args .raw) (c .before .pre) (c .if1 .taken))
-    (λ c. reserved storing (c .before .before .args .raw) (c .before .if1 .left) (λ f. omega (arith, mask-field (c .before .before .args .raw) 12 3, c .if2 .taken)))
+    (λ c. reads storing (c .before .args .raw) (is 0 2 0b11 ∷ isnt 0 7 0x23 ∷ []) (c .before .pre, (unseen (c .before .args .raw) 0 7 (c .if1 .taken), tt)) refl)
+    (λ c.
+    let w = c .before .before .args .raw in
+    reads storing w (is 0 7 0x23 ∷ isnt 14 1 0b0 ∷ []) (seen w 0 7 (c .before .if1 .left), (no-top-bit w (c .if2 .taken), tt)) refl)
     (λ c κs. search needs)
     (λ c κs. search needs)
     (λ c κs. search needs)
@@ -59,8 +67,4 @@ decode-uncompressed-store-spec =
     let n = c .before .bits-to-int in
     same-store false (c .before .before .register-at2 .ensures) (c .before .before .before .register-at .ensures)
     (kept (record { sfits = n .ok }) (n .ensures ∙ ap (signed 2048) (gathered-imm w))) (c .width-of .ensures ∙ two-bits w)
-    ∙ reads storing w 0 tt
-    (simp (
-      eq-eqb (w % 2 ^ 7) 0x23 (sym (and-mask w 7) ∙ s .if1 .left),
-      eq-eqb (fld w 14 1) 0 (top-bit w (c .before .before .before .before .if2 .left)),
-    ))))
+    ∙ reads storing w (is 0 7 0x23 ∷ is 14 1 0b0 ∷ []) (seen w 0 7 (s .if1 .left), (top-bit w (c .before .before .before .before .if2 .left), tt)) refl))
