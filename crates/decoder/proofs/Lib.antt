@@ -1,6 +1,7 @@
 pub mod SystemMasks
 pub mod SystemLines
 pub mod SystemSteps
+pub mod Legal
 pub mod Sentence
 pub mod Words01
 pub mod Accepts

@@ -16,7 +16,8 @@ use Rattle.utils.proofs.Tests.{both, join}
 use Rattle.decoder.specs.declared.CsrOp.{CsrOp}
 use Rattle.decoder.specs.declared.CsrOp.the-variants.{Write, Set, Clear}
 use Rattle.decoder.specs.declared.IllegalRead.the-variants.{InvalidCsrOp}
-use Rattle.decoder.specs.System.{access, opCode, funct3, readOnly, always, barredDef, foundDef, instAt, readShape, illegalDef, numberOf}
+use Rattle.decoder.specs.declared.Shape.the-variants.{Access as access}
+use Rattle.decoder.specs.System.{opCode, funct3, readOnly, always, barredDef, foundDef, instAt, readShape, illegalDef, numberOf}
 use Rattle.decoder.specs.Grounds.{CsrForm, address, Writes, ReadOnly, Grounds, Invalid}
 use Rattle.decoder.proofs.SystemLines.{past-wholes, unfit-csr, at-access, one-of-six, op-of, low-two}
 

@@ -12,19 +12,20 @@ use Rattle.utils.proofs.Digits.{halves}
 use Rattle.utils.proofs.Signed.{by-test}
 use Rattle.forms.specs.Layout.{Layout, all, width, matches, read, spares, readable, build, good}
 use Rattle.forms.specs.Table.{Kind, form, none, first}
-use Rattle.forms.specs.Speech.{Every, readAs, readOf, bitOf}
+use Rattle.forms.specs.Speech.{readAs, readOf, bitOf}
 use Rattle.utils.proofs.Tests.{both, on}
 use Rattle.forms.proofs.Laws.{read-build}
 use Rattle.forms.proofs.Facts.{Fact, is, isnt, Known, settles, fits, clears, by-facts}
-use Rattle.forms.proofs.Accepts.{by-lines, fields-of, Unread, passed, unread}
+use Rattle.forms.proofs.Accepts.{fields-of, Unread, passed, unread}
 use Rattle.forms.proofs.Codes.{bit-one}
 use Rattle.decoder.specs.declared.CsrOp.{CsrOp}
 use Rattle.decoder.specs.declared.CsrOp.the-variants.{Write, Set, Clear}
 use Rattle.decoder.specs.declared.Fence.{Fence}
 use Rattle.decoder.specs.declared.Fence.the-variants.{Vma, Vvma, Gvma}
-use Rattle.decoder.specs.Forms.{funct7, nth, fenced, wfi, mret, sret, sfence-vma, hfence-vvma, hfence-gvma, csrrw, csrrs, csrrc, csrrwi, csrrsi, csrrci, accesses, system}
-use Rattle.decoder.specs.System as System
-use Rattle.decoder.specs.System.{Shape, fence, access, opCode, funct3, speech, accessAt, shapeAt}
+use Rattle.decoder.specs.Forms.{funct7, nth, fenced, wfi, mret, sret, sfence-vma, hfence-vvma, hfence-gvma, accesses, system}
+use Rattle.decoder.specs.declared.Shape.{Shape}
+use Rattle.decoder.specs.declared.Shape.the-variants.{Fence as fence, Access as access}
+use Rattle.decoder.specs.System.{opCode, funct3, speech, accessAt, shapeAt}
 
 -- what is known of a word, by a table of SYSTEM words
 known : (T : List Layout) → all good T ≡ true → (w : ℕ) (fs : List Fact) → Known w fs → (settles fs T && clears fs []) ≡ true → readOf T speech w ≡ readAs speech w (first (fits fs) T 1)
@@ -160,39 +161,3 @@ op-of Clear false = refl
 op-of Write true = refl
 op-of Set true = refl
 op-of Clear true = refl
-
--- ---- and back: the fields of a word that is read as a fence, or in CSR form
-abbrev pub FieldsOf : ℕ → Shape → Type 0
-FieldsOf w System.wfi = Unit {0}
-FieldsOf w System.mret = Unit {0}
-FieldsOf w System.sret = Unit {0}
-FieldsOf w (fence f a b) = (a ≡ fld w 15 5) × (b ≡ fld w 20 5)
-FieldsOf w (access o m a d x) = (fld w 12 3 ≡ funct3 o m) × ((a ≡ fld w 20 12) × ((d ≡ fld w 7 5) × (x ≡ fld w 15 5)))
-
-module _ (w : ℕ) where
-  abbrev Has : List Layout → Type 0
-  Has T = Every (λ L. readable w L ≡ true → FieldsOf w (speech .make (read L w))) T
-
-  six-have : Has accesses
-  six-have = (
-    λ r. (fields-of csrrw w (has w csrrw r) .0, (refl, (refl, refl))),
-    (
-      λ r. (fields-of csrrs w (has w csrrs r) .0, (refl, (refl, refl))),
-      (
-        λ r. (fields-of csrrc w (has w csrrc r) .0, (refl, (refl, refl))),
-        (
-          λ r. (fields-of csrrwi w (has w csrrwi r) .0, (refl, (refl, refl))),
-          (
-            λ r. (fields-of csrrsi w (has w csrrsi r) .0, (refl, (refl, refl))),
-            (λ r. (fields-of csrrci w (has w csrrci r) .0, (refl, (refl, refl))), tt),
-          ),
-        ),
-      ),
-    ),
-  )
-
-  pub shape-fields : (s : Shape) → shapeAt w ≡ form s → FieldsOf w s
-  unfolding shapeAt accessAt
-  shape-fields s =
-      on (λ (k : Kind Shape). k ≡ form s → FieldsOf w s) (ltb w (2 ^ 32))
-      (λ _. by-lines speech w (FieldsOf w) system (λ r. tt, (λ r. tt, (λ r. tt, (λ r. (refl, refl), (λ r. (refl, refl), (λ r. (refl, refl), six-have)))))) s) (λ _. by-lines speech w (FieldsOf w) accesses six-have s)

@@ -18,16 +18,6 @@ access-test a = ap (λ (x : ℕ). eqb x 3072) (and-high a 2 10) ∙ go (fld a 10
     go x true e = let z = eqb-true x 3 e in eq-eqb (x * 2 ^ 10) 3072 (omega arith)
     go x false e = let z = eqb-false x 3 e in ne-eqb (x * 2 ^ 10) 3072 (λ q. z (omega arith))
 
--- w & 0b111 << 12, and of that & 0b011 << 12
-pub func3-mask : (w : ℕ) → bitAnd w 28672 ≡ fld w 12 3 * 2 ^ 12
-func3-mask w = and-high w 3 12
-
-pub op-mask : (w : ℕ) → bitAnd (bitAnd w 28672) 12288 ≡ fld w 12 3 % 4 * 2 ^ 12
-op-mask w = and-high (bitAnd w 28672) 2 12 ∙ ap (λ (x : ℕ). x / 2 ^ 12 % 2 ^ 2 * 2 ^ 12) (func3-mask w) ∙ go (fld w 12 3)
-  where
-    go : (x : ℕ) → x * 2 ^ 12 / 2 ^ 12 % 2 ^ 2 * 2 ^ 12 ≡ x % 4 * 2 ^ 12
-    go x = omega arith
-
 -- w & !0b1111111111000000001111111: bits 14:7, and everything from bit 25 up
 pub fence-mask : (w : ℕ) → w < 2 ^ 64 → bitAnd w 18446744073676029824 ≡ w / 2 ^ 25 * 2 ^ 25 + fld w 7 8 * 2 ^ 7
 fence-mask w h =

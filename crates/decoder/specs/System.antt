@@ -1,18 +1,19 @@
 -- The SYSTEM reading in three layers: what a word is by its fields alone; what a profile makes of that; and the two put together. It is document
 -- 01's "Reading a SYSTEM word".
 use mathlib.Core.Bool.{Bool, true, false, _&&_, _||_, not, cond}
+use mathlib.Core.Path.{_≡_}
 use mathlib.Core.List.{List, [], _∷_}
-use Prim.Native.Nat.{ℕ, _+_, _*_, _^_}
+use Prim.Native.Nat.{ℕ, _+_, _*_, _^_, _≤_, _<_}
 use lib.Dec.{eqb, ltb}
 use lib.ListN.{getD}
 use Rattle.utils.specs.Field.{fld}
-use Rattle.utils.specs.declared.Code.the-variants.{Is}
+use Rattle.utils.specs.declared.Code.the-variants.{Is as IsCode}
 use Rattle.registers.specs.declared.Csr.{Csr}
 use Rattle.registers.specs.declared.Register.{Register}
 use Rattle.csrs.specs.declared.CsrLookup.{CsrLookup}
 use Rattle.csrs.specs.declared.CsrLookup.the-variants.{Found, Missing}
 use Rattle.profiles.specs.declared.Profile.{Profile}
-use Rattle.csrs.specs.Gates.{decodeCsrDef}
+use Rattle.csrs.specs.Gates.{decodeCsrDef, available}
 use Rattle.forms.specs.Layout.{Operand, imm, rd, rs1, rs2, funct, csr, short}
 use Rattle.forms.specs.Table.{Kind, form, none}
 use Rattle.forms.specs.Speech.{Speech, readOf, bitOf}
@@ -25,6 +26,10 @@ use Rattle.decoder.specs.declared.IllegalInst.{IllegalInst}
 use Rattle.decoder.specs.declared.IllegalInst.the-variants.{Wfi, Csrrw, Csrrs, Csrrc, Csrrwi, Csrrsi, Csrrci, Mret, Sret, Sfencevma, Hfencevvma, Hfencegvma}
 use Rattle.decoder.specs.declared.IllegalRead.{IllegalRead}
 use Rattle.decoder.specs.declared.IllegalRead.the-variants.{Inst, Unknown, InvalidCsrOp}
+use Rattle.decoder.specs.declared.Shaped.{Shaped}
+use Rattle.decoder.specs.declared.Shaped.the-variants.{Is, Refused}
+use Rattle.decoder.specs.declared.Shape.{Shape}
+use Rattle.decoder.specs.declared.Shape.the-variants.{Wfi as wfi, Mret as mret, Sret as sret, Fence as fence, Access as access}
 
 -- document 01's number for each answer; 0 is no refusal
 abbrev pub numberOf : IllegalRead → ℕ
@@ -33,12 +38,10 @@ numberOf Unknown = 1
 numberOf InvalidCsrOp = 2
 
 -- ---- a word by its fields alone: no profile, and an address where an instruction has a register
-pub data Shape : Type 0 where
-  wfi : Shape
-  mret : Shape
-  sret : Shape
-  fence : Fence → ℕ → ℕ → Shape  -- rs1, rs2
-  access : CsrOp → Bool → ℕ → ℕ → ℕ → Shape  -- whether it is immediate; the address; rd; rs1 or uimm
+-- (the code's `Shape`; an access says whether it is immediate, the address, rd, and rs1 or uimm)
+abbrev pub shapeIn : Shaped → Kind Shape
+shapeIn (Is s) = form s
+shapeIn (Refused n) = none n
 
 -- funct3's low two bits, which are also the log's operation codes
 abbrev pub opCode : CsrOp → ℕ
@@ -105,7 +108,7 @@ operandsOf (access o m a d x) = operands (lineOf (access o m a d x)) d x 0 a
 
 -- a word that is no line gives 1; a shape that is none has a register above 31
 abbrev pub speech : Speech Shape
-speech = record { make = λ env. getD (shapes env) (env funct) wfi; ops = operandsOf; code = λ s. Is 0; is-short = λ s. false; why = λ w. 1; why-not = λ s. 6 }
+speech = record { make = λ env. getD (shapes env) (env funct) wfi; ops = operandsOf; code = λ s. IsCode 0; is-short = λ s. false; why = λ w. 1; why-not = λ s. 6 }
 
 -- CSR forms ignore bits above 31
 unfoldable pub accessAt : ℕ → Kind Shape
@@ -114,6 +117,26 @@ accessAt w = readOf accesses speech w
 -- and WFI, MRET, SRET and the fences are whole words
 unfoldable pub shapeAt : ℕ → Kind Shape
 shapeAt w = cond (ltb w (2 ^ 32)) (readOf system speech w) (accessAt w)
+
+-- registers and uimm below 32 and an address below 4096, as in every word
+abbrev pub Low : Shape → Type 0
+Low wfi = Unit {0}
+Low mret = Unit {0}
+Low sret = Unit {0}
+Low (fence f a b) = (a ≤ 31) × (b ≤ 31)
+Low (access o m a d x) = (a < 2 ^ 12) × ((d ≤ 31) × (x ≤ 31))
+
+-- where an access that is read has its fields in the word: whoever packs it anew may take them from there
+abbrev pub FieldsOf : ℕ → Shape → Type 0
+FieldsOf w wfi = Unit {0}
+FieldsOf w mret = Unit {0}
+FieldsOf w sret = Unit {0}
+FieldsOf w (fence f a b) = Unit {0}
+FieldsOf w (access o m a d x) = (fld w 12 2 ≡ opCode o) × ((fld w 14 1 ≡ bitOf m) × ((fld w 20 12 ≡ a) × ((fld w 7 5 ≡ d) × (fld w 15 5 ≡ x))))
+
+abbrev pub FieldsIn : ℕ → Shaped → Type 0
+FieldsIn w (Is s) = FieldsOf w s
+FieldsIn w (Refused n) = Unit {0}
 
 -- ---- which accesses write, and which registers may not be written
 -- write always writes; set and clear write when the rs1 field is not 0
@@ -131,6 +154,14 @@ abbrev pub barredDef : ℕ → Bool → ℕ → Bool
 barredDef a always x = readOnly a && (always || not (eqb x 0))
 
 -- ---- what a profile makes of a shape
+-- whether it makes an instruction of it
+abbrev pub legalDef : Profile → Shape → Bool
+legalDef p wfi = true
+legalDef p mret = true
+legalDef p sret = true
+legalDef p (fence f a b) = true
+legalDef p (access o m a d x) = not (barredDef a (always o) x) && available p a
+
 abbrev pub reg : ℕ → Register
 reg n = record { 0 = n }
 

@@ -4,31 +4,28 @@ use mathlib.Core.Path.{_≡_, refl, sym, ap, _∙_, subst}
 use mathlib.Core.Bool.{Bool, true, false, _&&_, cond}
 use mathlib.Core.List.{List, [], _∷_}
 use Prim.Native.Nat.{ℕ, zero, suc, _^_, _≤_, _<_}
-use native.Mathlib.Nat.{lt-of-lt-of-le}
 use native.Mathlib.Omega.{arith}
 use borrow.Author.Tests.{leb-true, lt-ltb}
-use lib.Dec.{leb}
+use lib.Dec.{leb, ltb}
 use lib.ListN.{getD}
-use lib.Pow.{pow-mono}
 use Rattle.utils.specs.declared.Code.the-variants.{Is}
 use Rattle.registers.specs.declared.Csr.{Csr}
 use Rattle.registers.specs.declared.Idx.{Idx}
 use Rattle.registers.specs.declared.Idx.the-variants.{At, Refused as Nowhere}
-use Rattle.registers.specs.declared.Register.{Register}
 use Rattle.registers.specs.Address.{idxDef}
 use Rattle.csrs.specs.declared.CsrLookup.{CsrLookup}
 use Rattle.csrs.specs.declared.CsrLookup.the-variants.{Found, Missing}
 use Rattle.profiles.specs.declared.Profile.{Profile}
-use Rattle.csrs.specs.Gates.{decodeCsrDef}
-use Rattle.csrs.proofs.Laws.{found-idx, own}
+use Rattle.csrs.specs.Gates.{decodeCsrDef, isFound, available}
+use Rattle.csrs.proofs.Laws.{found-idx, found-lt, own}
 use Rattle.forms.specs.declared.Wrote.the-variants.{Word}
-use Rattle.forms.specs.Layout.{Layout, Operand, imm, rd, rs1, rs2, funct, all, size, read, readable}
-use Rattle.forms.specs.Table.{Kind, form, none, first, sound}
-use Rattle.forms.specs.Speech.{Says, Every, Faithful, readAs, readOf}
+use Rattle.forms.specs.Layout.{Layout, Operand, imm, rd, rs1, rs2, funct, csr, all}
+use Rattle.forms.specs.Table.{Kind, form, none, sound}
+use Rattle.forms.specs.Speech.{Says, Every, Faithful, readOf, writeOf}
 use Rattle.forms.specs.Demand3.{RefusedExactly, OnlyWord}
-use Rattle.utils.proofs.Tests.{on}
-use Rattle.forms.proofs.Laws.{read-lt}
-use Rattle.forms.proofs.Table.{no-form, first-all, found-good}
+use Rattle.utils.proofs.Tests.{both, on}
+use Rattle.forms.proofs.Accepts.{room, roomy, made-of}
+use Rattle.forms.proofs.Table.{no-form}
 use Rattle.forms.proofs.AnyReader.{no-word, refused-by, only-by}
 use Rattle.forms.proofs.Demand3 as table
 use Rattle.decoder.specs.declared.CsrOp.{CsrOp}
@@ -38,10 +35,12 @@ use Rattle.decoder.specs.declared.Fence.the-variants.{Vma, Vvma, Gvma}
 use Rattle.decoder.specs.declared.IllegalInst.{IllegalInst}
 use Rattle.decoder.specs.declared.IllegalInst.the-variants.{Wfi, Csrrw, Csrrs, Csrrc, Csrrwi, Csrrsi, Csrrci, Mret, Sret, Sfencevma, Hfencevvma, Hfencegvma}
 use Rattle.decoder.specs.declared.IllegalRead.the-variants.{Inst, InvalidCsrOp}
-use Rattle.decoder.specs.Forms.{system}
-use Rattle.decoder.specs.System.{Shape, wfi, mret, sret, fence, access, shapes, operandsOf, speech, always, barredDef, reg, instOf, fenceOf, foundDef, instAt, readShape, shapeAt, illegalDef}
-use Rattle.encoder.proofs.SystemSteps.{past-6}
-use Rattle.encoder.specs.System.{lookedUp, addressed, placed, accessFor, fenceFor, shapeFor, writeShape, encodeIllegalDef}
+use Rattle.decoder.specs.Forms.{system, accesses}
+use Rattle.decoder.specs.declared.Shape.{Shape}
+use Rattle.decoder.specs.declared.Shape.the-variants.{Wfi as wfi, Mret as mret, Sret as sret, Fence as fence, Access as access}
+use Rattle.decoder.specs.System.{Low, shapes, operandsOf, speech, always, barredDef, instOf, fenceOf, foundDef, instAt, readShape, accessAt, shapeAt, illegalDef}
+use Rattle.encoder.proofs.SystemSteps.{past-6, access-word, fence-word}
+use Rattle.encoder.specs.System.{reached, checkedDef, placeOf, accessTo, ownShape, shapeFor, writeShape, encodeIllegalDef}
 
 -- ---- the table of shapes
 system-sound : sound system ≡ true
@@ -75,14 +74,7 @@ faithful = record { lines = lines; code-ops = code-ops; make-ops = λ s _ _. mak
     make-ops (access Set true a d x) = refl
     make-ops (access Clear true a d x) = refl
 
--- ---- what is read has registers below 32
-abbrev pub Small : Shape → Type 0
-Small wfi = Unit {0}
-Small mret = Unit {0}
-Small sret = Unit {0}
-Small (fence f a b) = (a ≤ 31) × (b ≤ 31)
-Small (access o m a d x) = (d ≤ 31) × (x ≤ 31)
-
+-- ---- what is read is low
 abbrev EachShape : (Shape → Type 0) → List Shape → Type 0
 EachShape P [] = Unit {0}
 EachShape P (x ∷ xs) = P x × EachShape P xs
@@ -92,29 +84,20 @@ getD-each P [] n d h p = p
 getD-each P (x ∷ xs) zero d h p = h .0
 getD-each P (x ∷ xs) (suc n) d h p = getD-each P xs n d (h .1) p
 
-pub shapes-small : (env : Operand → ℕ) → env rd ≤ 31 → env rs1 ≤ 31 → env rs2 ≤ 31 → Small (speech .make env)
-shapes-small env d a b =
+shapes-low : (env : Operand → ℕ) → env csr < 2 ^ 12 → env rd ≤ 31 → env rs1 ≤ 31 → env rs2 ≤ 31 → Low (speech .make env)
+shapes-low env c d a b =
     let f : (env rs1 ≤ 31) × (env rs2 ≤ 31) = (a, b) in
-    let x : (env rd ≤ 31) × (env rs1 ≤ 31) = (d, a) in
-    getD-each Small (shapes env) (env funct) wfi (tt, (tt, (tt, (f, (f, (f, (x, (x, (x, (x, (x, (x, tt)))))))))))) tt
+    let x : (env csr < 2 ^ 12) × ((env rd ≤ 31) × (env rs1 ≤ 31)) = (c, (d, a)) in
+    getD-each Low (shapes env) (env funct) wfi (tt, (tt, (tt, (f, (f, (f, (x, (x, (x, (x, (x, (x, tt)))))))))))) tt
 
-five : Layout → Operand → Bool
-five L x = leb (size L x) 5
+read-low : (T : List Layout) → sound T ≡ true → all (roomy room) T ≡ true → (w : ℕ) (s : Shape) → readOf T speech w ≡ form s → Low s
+read-low T ok r w s e =
+    let m = made-of T speech room ok r w s e in
+    subst Low (m .same) (shapes-low (m .env) (m .low csr) (omega (arith, m .low rd)) (omega (arith, m .low rs1)) (omega (arith, m .low rs2)))
 
-pub read-small : (w : ℕ) (s : Shape) → readOf system speech w ≡ form s → Small s
-unfolding five
-read-small w s = go (first (readable w) system 1) refl
-  where
-    below : (L : Layout) (x : Operand) → first (readable w) system 1 ≡ form L → all (λ M. five M x) system ≡ true → read L w x ≤ 31
-    below L x e t =
-        let l = lt-of-lt-of-le (read-lt L (found-good system system-sound (readable w) 1 L e) w x) (pow-mono (leb-true (size L x) 5 (first-all (λ M. five M x) (readable w) system 1 L t e))) in
-        omega arith
-
-    go : (k : Kind Layout) → first (readable w) system 1 ≡ k → readAs speech w k ≡ form s → Small s
-    go (form L) e q =
-        let same : speech .make (read L w) ≡ s = cc in
-        subst Small same (shapes-small (read L w) (below L rd e refl) (below L rs1 e refl) (below L rs2 e refl))
-    go (none n) e q = no-form n s q
+pub shape-low : (w : ℕ) (s : Shape) → shapeAt w ≡ form s → Low s
+unfolding shapeAt accessAt
+shape-low w s = on (λ (k : Kind Shape). k ≡ form s → Low s) (ltb w (2 ^ 32)) (λ _. read-low system refl refl w s) (λ _. read-low accesses refl refl w s)
 
 -- ---- what a profile makes of a shape, and back
 -- a CSR form that is read is not barred, and its register is found at its address
@@ -135,75 +118,107 @@ legal p o m a d x i = go (barredDef a (always o) x) refl (decodeCsrDef p a) refl
     go false q (Found c) r e = record { csr = c; free = q; at = r; is = (cc) }
     go false q Missing r e = invalid-no e
 
-pub for-fence : (p : Profile) (f : Fence) (a b : ℕ) → shapeFor p (fenceOf f a b) ≡ fenceFor f (reg a) (reg b)
-for-fence p Vma a b = refl
-for-fence p Vvma a b = refl
-for-fence p Gvma a b = refl
+pub own-fence : (f : Fence) (a b : ℕ) → ownShape (fenceOf f a b) ≡ fence f a b
+own-fence Vma a b = refl
+own-fence Vvma a b = refl
+own-fence Gvma a b = refl
 
-pub for-access : (p : Profile) (o : CsrOp) (m : Bool) (c : Csr) (d x : ℕ) → shapeFor p (instOf o m c d x) ≡ accessFor p o m c (reg d) x
-for-access p Write false c d x = refl
-for-access p Set false c d x = refl
-for-access p Clear false c d x = refl
-for-access p Write true c d x = refl
-for-access p Set true c d x = refl
-for-access p Clear true c d x = refl
+pub own-access : (o : CsrOp) (m : Bool) (c : Csr) (d x : ℕ) → ownShape (instOf o m c d x) ≡ accessTo o m c d x
+own-access Write false c d x = refl
+own-access Set false c d x = refl
+own-access Clear false c d x = refl
+own-access Write true c d x = refl
+own-access Set true c d x = refl
+own-access Clear true c d x = refl
 
-pub inst-back : (p : Profile) (s : Shape) (i : IllegalInst) → Small s → instAt p s ≡ Inst i → shapeFor p i ≡ form s
+-- the register that is found at an address has the address
+pub own-found : (p : Profile) (o : CsrOp) (m : Bool) (a d x : ℕ) (c : Csr) → decodeCsrDef p a ≡ Found c → ownShape (instOf o m c d x) ≡ access o m a d x
+own-found p o m a d x c e = own-access o m c d x ∙ ap (λ (y : Idx). access o m (placeOf y) d x) (found-idx p a c e)
+
+pub inst-back : (p : Profile) (s : Shape) (i : IllegalInst) → Low s → instAt p s ≡ Inst i → shapeFor p i ≡ form s
+unfolding available
 inst-back p wfi i l e = let z : Wfi ≡ i = cc in ap (shapeFor p) (sym z)
 inst-back p mret i l e = let z : Mret ≡ i = cc in ap (shapeFor p) (sym z)
 inst-back p sret i l e = let z : Sret ≡ i = cc in ap (shapeFor p) (sym z)
 inst-back p (fence f a b) i l e =
     let z : fenceOf f a b ≡ i = cc in
-    ap (shapeFor p) (sym z) ∙ for-fence p f a b ∙ sym (past-6 a b (form (fence f a b)) (none 6) (l .0) (l .1))
+    ap (shapeFor p) (sym z) ∙ ap (checkedDef p) (own-fence f a b) ∙ sym (past-6 a b (form (fence f a b)) (none 6) (l .0) (l .1))
 inst-back p (access o m a d x) i l e =
     let t = legal p o m a d x i e in
-    ap (shapeFor p) (sym (t .is)) ∙ for-access p o m (t .csr) d x
-    ∙ ap (λ (y : Idx). placed y o m d x)
-    (sym (past-6 d x (addressed p (idxDef (t .csr)) o x) (Nowhere 6) (l .0) (l .1))
-    ∙ ap (λ (y : Idx). addressed p y o x) (found-idx p a (t .csr) (t .at))
-    ∙ ap (λ (y : CsrLookup). lookedUp y o a x) (t .at)
-    ∙ ap (λ (b : Bool). cond b (Nowhere 8) (At a)) (t .free))
+    ap (shapeFor p) (sym (t .is)) ∙ ap (checkedDef p) (own-found p o m a d x (t .csr) (t .at))
+    ∙ sym (past-6 d x (reached (available p a) (barredDef a (always o) x) (access o m a d x)) (none 6) (l .1 .0) (l .1 .1))
+    ∙ (λ j. reached (isFound (t .at j)) (t .free j) (access o m a d x))
 
 module _ (p : Profile) where
   abbrev Reads : IllegalInst → Kind Shape → Type 0
   Reads i (form s) = instAt p s ≡ Inst i
   Reads i (none n) = Unit {0}
 
-  fence-reads : (f : Fence) (a b : Register) → Reads (fenceOf f (a .0) (b .0)) (fenceFor f a b)
-  fence-reads f a b = on (Reads (fenceOf f (a .0) (b .0))) (leb (a .0) 31 && leb (b .0) 31) (λ _. refl) (λ _. tt)
+  fence-reads : (f : Fence) (a b : ℕ) → Reads (fenceOf f a b) (checkedDef p (fence f a b))
+  fence-reads f a b = on (Reads (fenceOf f a b)) (leb a 31 && leb b 31) (λ _. refl) (λ _. tt)
 
-  access-reads : (o : CsrOp) (m : Bool) (c : Csr) (d : Register) (x : ℕ) → Reads (instOf o m c (d .0) x) (accessFor p o m c d x)
-  access-reads o m c d x = on Read (leb (d .0) 31 && leb x 31) (λ _. place (idxDef c) refl) (λ _. tt)
+  access-reads : (o : CsrOp) (m : Bool) (c : Csr) (d x : ℕ) → Reads (instOf o m c d x) (checkedDef p (accessTo o m c d x))
+  unfolding available
+  access-reads o m c d x = on Read (leb d 31 && leb x 31) (λ _. place (idxDef c) refl) (λ _. tt)
     where
-      Read : Idx → Type 0
-      Read y = Reads (instOf o m c (d .0) x) (placed y o m (d .0) x)
+      Read : Kind Shape → Type 0
+      Read = Reads (instOf o m c d x)
 
-      look : (a : ℕ) → idxDef c ≡ At a → (k : CsrLookup) → decodeCsrDef p a ≡ k → Read (lookedUp k o a x)
+      -- what is found there is the register, if anything is
+      look : (a : ℕ) → ((f : Csr) → decodeCsrDef p a ≡ Found f → f ≡ c) → (k : CsrLookup) → decodeCsrDef p a ≡ k → Read (reached (isFound k) (barredDef a (always o) x) (access o m a d x))
       look a e (Found f) q =
           on Read (barredDef a (always o) x) (λ _. tt)
-          (λ b. (λ j. cond (b j) InvalidCsrOp (foundDef (q j) o m (d .0) x)) ∙ ap (λ (y : Csr). Inst (instOf o m y (d .0) x)) (own p a c f e q))
+          (λ b. (λ j. cond (b j) InvalidCsrOp (foundDef (q j) o m d x)) ∙ ap (λ (y : Csr). Inst (instOf o m y d x)) (e f q))
       look a e Missing q = tt
 
-      place : (i : Idx) → idxDef c ≡ i → Read (addressed p i o x)
-      place (At a) e = look a e (decodeCsrDef p a) refl
-      place (Nowhere n) e = tt
+      place : (i : Idx) → idxDef c ≡ i → Read (reached (isFound (decodeCsrDef p (placeOf i))) (barredDef (placeOf i) (always o) x) (access o m (placeOf i) d x))
+      place (At a) e = look a (λ f q. own p a c f e q) (decodeCsrDef p a) refl
+      place (Nowhere n) e = look (2 ^ 12) (λ f q. absurd (omega (arith, found-lt p (2 ^ 12) f q))) (decodeCsrDef p (2 ^ 12)) refl
 
   reads : (i : IllegalInst) → Reads i (shapeFor p i)
   reads Wfi = refl
-  reads (Csrrw c d x) = access-reads Write false c d (x .0)
-  reads (Csrrs c d x) = access-reads Set false c d (x .0)
-  reads (Csrrc c d x) = access-reads Clear false c d (x .0)
-  reads (Csrrwi c d x) = access-reads Write true c d x
-  reads (Csrrsi c d x) = access-reads Set true c d x
-  reads (Csrrci c d x) = access-reads Clear true c d x
+  reads (Csrrw c d x) = access-reads Write false c (d .0) (x .0)
+  reads (Csrrs c d x) = access-reads Set false c (d .0) (x .0)
+  reads (Csrrc c d x) = access-reads Clear false c (d .0) (x .0)
+  reads (Csrrwi c d x) = access-reads Write true c (d .0) x
+  reads (Csrrsi c d x) = access-reads Set true c (d .0) x
+  reads (Csrrci c d x) = access-reads Clear true c (d .0) x
   reads Mret = refl
   reads Sret = refl
-  reads (Sfencevma a b) = fence-reads Vma a b
-  reads (Hfencevvma a b) = fence-reads Vvma a b
-  reads (Hfencegvma a b) = fence-reads Gvma a b
+  reads (Sfencevma a b) = fence-reads Vma (a .0) (b .0)
+  reads (Hfencevvma a b) = fence-reads Vvma (a .0) (b .0)
+  reads (Hfencegvma a b) = fence-reads Gvma (a .0) (b .0)
 
   pub inst-forth : (i : IllegalInst) (s : Shape) → shapeFor p i ≡ form s → instAt p s ≡ Inst i
   inst-forth i s e = subst (Reads i) e (reads i)
+
+-- ---- what can be written is as it was, and low, and has a word
+pub checked-is : (p : Profile) (s t : Shape) → checkedDef p s ≡ form t → (s ≡ t) × Low t
+unfolding available
+checked-is p wfi t = λ e. let z : wfi ≡ t = cc in (z, subst Low z tt)
+checked-is p mret t = λ e. let z : mret ≡ t = cc in (z, subst Low z tt)
+checked-is p sret t = λ e. let z : sret ≡ t = cc in (z, subst Low z tt)
+checked-is p (fence f a b) t =
+    on (λ (k : Kind Shape). k ≡ form t → (fence f a b ≡ t) × Low t) (leb a 31 && leb b 31)
+    (λ q e. let l = both (leb a 31) (leb b 31) q in let z : fence f a b ≡ t = cc in (z, subst Low z (leb-true a 31 (l .0), leb-true b 31 (l .1)))) (λ _ e. no-form 6 t e)
+checked-is p (access o m a d x) t =
+    on (λ (k : Kind Shape). k ≡ form t → (access o m a d x ≡ t) × Low t) (leb d 31 && leb x 31)
+    (λ q. let l = both (leb d 31) (leb x 31) q in go (leb-true d 31 (l .0)) (leb-true x 31 (l .1)) (decodeCsrDef p a) refl (barredDef a (always o) x)) (λ _ e. no-form 6 t e)
+  where
+    go : d ≤ 31 → x ≤ 31 → (k : CsrLookup) → decodeCsrDef p a ≡ k → (b : Bool) → reached (isFound k) b (access o m a d x) ≡ form t → (access o m a d x ≡ t) × Low t
+    go g h (Found c) q true e = no-form 8 t e
+    go g h (Found c) q false e = let z : access o m a d x ≡ t = cc in (z, subst Low z (found-lt p a c q, (g, h)))
+    go g h Missing q b e = no-form 7 t e
+
+low-word : (s : Shape) → Low s → (w : ℕ) × (writeOf system speech s ≡ Word w)
+low-word wfi l = (_, refl)
+low-word mret l = (_, refl)
+low-word sret l = (_, refl)
+low-word (fence f a b) l = (_, sym (fence-word a b (l .0) (l .1) f))
+low-word (access o m a d x) l = (_, sym (access-word a d x (l .0) (l .1 .0) (l .1 .1) o m))
+
+pub checked-word : (p : Profile) (s t : Shape) → checkedDef p s ≡ form t → (w : ℕ) × ((writeShape (form t) ≡ Word w) × (w < 2 ^ 32))
+checked-word p s t e = let k = low-word t (checked-is p s t e .1) in (k .0, (k .1, table.write-then-read system speech system-sound faithful t (k .0) (k .1) .0))
 
 -- ---- the demand
 short-word : (w : ℕ) → w < 2 ^ 32 → shapeAt w ≡ readOf system speech w
@@ -216,7 +231,7 @@ unfolding illegalDef encodeIllegalDef
 read-then-write p w i q h = go (readOf system speech w) refl (ap (readShape p) (sym (short-word w h)) ∙ q)
   where
     go : (k : Kind Shape) → readOf system speech w ≡ k → readShape p k ≡ Inst i → encodeIllegalDef p i ≡ Word w
-    go (form s) e r = ap writeShape (inst-back p s i (read-small w s e) r) ∙ table.read-then-write system speech system-sound faithful w s e h
+    go (form s) e r = ap writeShape (inst-back p s i (read-low system refl refl w s e) r) ∙ table.read-then-write system speech system-sound faithful w s e h
     go (none n) e r = absurd (let z : _≡_ {A = ℕ} 0 1 = cc in omega arith)
 
 -- the word that an instruction is written as is below 2^32, and is read as the instruction

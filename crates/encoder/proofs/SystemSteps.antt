@@ -1,26 +1,16 @@
 -- What each exit of the SYSTEM writing's functions knows is what the definition asks there. Assumes nothing.
 use mathlib.Core.Path.{_≡_, refl, sym, ap, subst, _∙_}
-use mathlib.Core.Bool.{Bool, true, false, _&&_, _||_, not, cond}
+use mathlib.Core.Bool.{Bool, true, false, _||_, not, cond}
 use mathlib.Core.List.{[], _∷_}
 use Prim.Native.Nat.{ℕ, _-_, _*_, _%_, _^_, _≤_, _<_}
 use native.Mathlib.Nat.{mod-eq-of-lt}
 use native.Mathlib.Omega.{arith}
-use borrow.Author.Tests.{le-leb, lt-leb, leb-true}
+use borrow.Author.Tests.{le-leb, lt-leb, not-true, not-false}
 use lib.Bits.{bitAnd, bitOr, and-mask}
 use lib.Dec.{leb}
-use Rattle.registers.specs.declared.Csr.{Csr}
-use Rattle.registers.specs.declared.Idx.{Idx}
-use Rattle.registers.specs.declared.Idx.the-variants.{At, Refused as Nowhere}
-use Rattle.registers.specs.declared.Register.{Register}
-use Rattle.registers.specs.Address.{idxDef}
-use Rattle.csrs.specs.declared.CsrLookup.{CsrLookup}
-use Rattle.csrs.specs.declared.CsrLookup.the-variants.{Found, Missing}
-use Rattle.profiles.specs.declared.Profile.{Profile}
-use Rattle.csrs.specs.Gates.{decodeCsrDef}
-use Rattle.csrs.proofs.Laws.{found-lt}
 use Rattle.forms.specs.declared.Wrote.the-variants.{Word}
 use Rattle.forms.specs.Layout.{Layout, Operand, imm, rd, rs1, rs2, funct, csr, short, all, width, holds, good, build}
-use Rattle.forms.specs.Table.{form, first}
+use Rattle.forms.specs.Table.{form, none, first}
 use Rattle.forms.specs.Speech.{writeAs, writeOf, put}
 use Rattle.forms.proofs.Facts.{under}
 use Rattle.forms.proofs.Choices.{Told, exactly, such, KnownAs, picks, drops, by-operands}
@@ -31,8 +21,12 @@ use Rattle.decoder.specs.declared.CsrOp.the-variants.{Write, Set, Clear}
 use Rattle.decoder.specs.declared.Fence.{Fence}
 use Rattle.decoder.specs.declared.Fence.the-variants.{Vma, Vvma, Gvma}
 use Rattle.decoder.specs.Forms.{funct7, sfence-vma, hfence-vvma, hfence-gvma, csrrw, csrrs, csrrc, csrrwi, csrrsi, csrrci, system}
-use Rattle.decoder.specs.System.{Shape, fence, access, operands, operandsOf, funct3, always, barredDef, speech}
-use Rattle.encoder.specs.System.{below32, lookedUp, addressed, addressFor}
+use Rattle.decoder.specs.declared.Shape.{Shape}
+use Rattle.decoder.specs.declared.Shape.the-variants.{Fence as fence, Access as access}
+use Rattle.decoder.specs.System.{operands, operandsOf, funct3, always, barredDef, speech}
+use Rattle.profiles.specs.declared.Profile.{Profile}
+use Rattle.csrs.specs.Gates.{available}
+use Rattle.encoder.specs.System.{below32, reached, checkedDef}
 
 -- ---- 6: z is the refusal
 pub first-6 : {X : Type 0} (a b : ℕ) (k z : X) → 31 < a → z ≡ below32 a b k z
@@ -43,60 +37,6 @@ second-6 a b k z g h = rw (le-leb a 31 g, lt-leb b 31 h)
 
 pub past-6 : {X : Type 0} (a b : ℕ) (k z : X) → a ≤ 31 → b ≤ 31 → k ≡ below32 a b k z
 past-6 a b k z g h = rw (le-leb a 31 g, le-leb b 31 h)
-
--- ---- 7 and 8: i is what `idx` gave, k what the look-up gave, b what `is_barred` gave
-module _ (p : Profile) (o : CsrOp) (c : Csr) (x : ℕ) {i : Idx} (q : i ≡ idxDef c) where
-  abbrev Answer : Idx → Type 0
-  Answer r = r ≡ addressed p (idxDef c) o x
-
-  pub no-address : (n : ℕ) → i ≡ Nowhere n → Answer (Nowhere 7)
-  no-address n e = ap (λ (y : Idx). addressed p y o x) (sym e ∙ q)
-
-  module _ (a : ℕ) (e : i ≡ At a) {k : CsrLookup} (l : k ≡ decodeCsrDef p a) where
-    looked : lookedUp k o a x ≡ addressed p (idxDef c) o x
-    looked = ap (λ (y : CsrLookup). lookedUp y o a x) l ∙ ap (λ (y : Idx). addressed p y o x) (sym e ∙ q)
-
-    pub unavailable : k ≡ Missing → Answer (Nowhere 7)
-    unavailable f = ap (λ (y : CsrLookup). lookedUp y o a x) (sym f) ∙ looked
-
-    module _ (f : Csr) (u : k ≡ Found f) {t : Bool} (w : t ≡ always o) {b : Bool} (v : b ≡ barredDef a t x) where
-      asked : cond b (Nowhere 8) (At a) ≡ addressed p (idxDef c) o x
-      asked = ap (λ (y : Bool). cond y (Nowhere 8) (At a)) (v ∙ ap (λ (y : Bool). barredDef a y x) w) ∙ ap (λ (y : CsrLookup). lookedUp y o a x) (sym u) ∙ looked
-
-      pub barred : b ≡ true → Answer (Nowhere 8)
-      barred y = ap (λ (z : Bool). cond z (Nowhere 8) (At a)) (sym y) ∙ asked
-
-      pub free : b ≡ false → Answer (At a)
-      free y = ap (λ (z : Bool). cond z (Nowhere 8) (At a)) (sym y) ∙ asked
-
--- an access that can be written has registers below 32, and an address of twelve bits that is its register's
-pub record Placed (p : Profile) (c : Csr) (d x a : ℕ) : Type 0 where
-  pub rd : d ≤ 31
-  pub src : x ≤ 31
-  pub csr : idxDef c ≡ At a
-  pub small : a < 2 ^ 12
-
-no-at : {X : Type 0} {n a : ℕ} → Nowhere n ≡ At a → X
-no-at e = absurd (let z : _≡_ {A = ℕ} 0 1 = cc in omega arith)
-
-unbarred : (t : Bool) (b a : ℕ) → cond t (Nowhere 8) (At b) ≡ At a → b ≡ a
-unbarred true b a e = no-at e
-unbarred false b a e = cc
-
-pub address-at : (p : Profile) (o : CsrOp) (c : Csr) (d : Register) (x a : ℕ) → addressFor p o c d x ≡ At a → Placed p c (d .0) x a
-address-at p o c d x a = go (leb (d .0) 31) refl (leb x 31) refl (idxDef c) refl
-  where
-    look : (b : ℕ) → d .0 ≤ 31 → x ≤ 31 → idxDef c ≡ At b → (k : CsrLookup) → decodeCsrDef p b ≡ k → lookedUp k o b x ≡ At a → Placed p c (d .0) x a
-    look b g h e (Found f) q r =
-        let z = unbarred (barredDef b (always o) x) b a r in
-        record { rd = g; src = h; csr = e ∙ ap At z; small = subst (λ (n : ℕ). n < 2 ^ 12) z (found-lt p b f q) }
-    look b g h e Missing q r = no-at r
-
-    go : (s : Bool) → leb (d .0) 31 ≡ s → (t : Bool) → leb x 31 ≡ t → (i : Idx) → idxDef c ≡ i → cond (s && t) (addressed p i o x) (Nowhere 6) ≡ At a → Placed p c (d .0) x a
-    go true q true r (At b) e f = look b (leb-true (d .0) 31 q) (leb-true x 31 r) e (decodeCsrDef p b) refl f
-    go true q true r (Nowhere n) e f = no-at f
-    go true q false r i e f = no-at f
-    go false q t r i e f = no-at f
 
 -- ---- the words
 -- what is known of a shape's operands: of the line's number, rd, rs1, rs2 and the CSR
@@ -165,3 +105,16 @@ module _ (a b : ℕ) (la : a ≤ 31) (lb : b ≤ 31) where
   fence-word Vma = by-line (fence Vma a b) (fenceTold 3) (fence-known (fence Vma a b) 3 refl) sfence-vma refl refl refl refl refl (fence-masks (funct7 Vma * 2 ^ 25))
   fence-word Vvma = by-line (fence Vvma a b) (fenceTold 4) (fence-known (fence Vvma a b) 4 refl) hfence-vvma refl refl refl refl refl (fence-masks (funct7 Vvma * 2 ^ 25))
   fence-word Gvma = by-line (fence Gvma a b) (fenceTold 5) (fence-known (fence Gvma a b) 5 refl) hfence-gvma refl refl refl refl refl (fence-masks (funct7 Gvma * 2 ^ 25))
+
+-- ---- 7 and 8: t is what `is_available` gave, b what `is_barred` gave
+module _ (p : Profile) (o : CsrOp) (m : Bool) (a d x : ℕ) (ld : d ≤ 31) (lx : x ≤ 31) {t : Bool} (e : t ≡ available p a) where
+  asked : (u : Bool) → t ≡ u → {b : Bool} → b ≡ barredDef a (always o) x → reached u b (access o m a d x) ≡ checkedDef p (access o m a d x)
+  asked u q v =
+      (λ j. reached ((sym q ∙ e) j) (v j) (access o m a d x)) ∙ past-6 d x (reached (available p a) (barredDef a (always o) x) (access o m a d x)) (none 6) ld lx
+
+  pub unavailable : not t ≡ true → none 7 ≡ checkedDef p (access o m a d x)
+  unavailable q = asked false (not-true t q) refl
+
+  module _ (q : not t ≡ false) {w : Bool} (v : w ≡ always o) {b : Bool} (k : b ≡ barredDef a w x) where
+    pub barring : {c : Bool} → b ≡ c → reached true c (access o m a d x) ≡ checkedDef p (access o m a d x)
+    barring z = asked true (not-false t q) (sym z ∙ k ∙ ap (λ (y : Bool). barredDef a y x) v)

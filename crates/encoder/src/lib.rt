@@ -2,90 +2,168 @@
 // no word stands for is refused by document 01's numbers.
 ghost use mathlib.Core.Path.{_≡_};
 ghost use Prim.Native.Nat.{_*_, _^_};
-ghost use Rattle.decoder.specs.System.{always, funct3};
-ghost use Rattle.encoder.specs.System.{addressFor, accessFor, fenceFor, writeShape, encodeIllegalDef};
-ghost use Rattle.decoder.specs.Forms.{funct7};
-use csrs::CsrLookup;
+ghost use Rattle.forms.specs.declared.Wrote.the-variants.{Word};
+ghost use Rattle.forms.specs.Speech.{writeOf};
+ghost use Rattle.decoder.specs.Forms.{funct7, system};
+ghost use Rattle.decoder.specs.System.{shapeIn, Low, funct3, speech};
+ghost use Rattle.encoder.specs.System.{checkedDef, accessTo, ownShape, shapeFor, writeShape, encodeIllegalDef};
 use decoder::CsrOp;
 use decoder::Fence;
 use decoder::IllegalInst;
+use decoder::Shape;
+use decoder::Shaped;
 use forms::Wrote;
 use profiles::Profile;
 use registers::Csr;
 use registers::Idx;
 use registers::Register;
 
+// The address of a register that has none: twelve bits hold no such number.
+const NO_ADDRESS: usize = 0x1000;
+
 // The word of a privileged instruction under a profile.
 pub fn encode_illegal_instruction(ctx: Profile, inst: IllegalInst) -> Wrote
     ensures { λ r. ⌜ r ≡ encodeIllegalDef ctx inst ⌝ }
 {
+    encode_shape(ctx, own_shape(inst))
+}
+
+// The word of a shape that may hold any numbers.
+pub fn encode_shape(ctx: Profile, shape: Shape) -> Wrote
+    ensures { λ r. ⌜ r ≡ writeShape (checkedDef ctx shape) ⌝ }
+{
+    match checked(ctx, shape) {
+        Shaped::Is(low) => Wrote::Word(word_of(low)),
+        Shaped::Refused(n) => Wrote::Refused(n),
+    }
+}
+
+// The shape in which the profile lets an instruction be written, or refusal 6, 7 or 8: what a word, a log record and a line of text
+// have in common.
+pub fn shape_of(ctx: Profile, inst: IllegalInst) -> Shaped
+    ensures { λ r. ⌜ shapeIn r ≡ shapeFor ctx inst ⌝ }
+{
+    checked(ctx, own_shape(inst))
+}
+
+// An instruction's shape, whatever its numbers are.
+pub fn own_shape(inst: IllegalInst) -> Shape
+    ensures { λ r. ⌜ r ≡ ownShape inst ⌝ }
+{
     match inst {
-        IllegalInst::Wfi => Wrote::Word(0b00010000010100000000000001110011),
-        IllegalInst::Csrrw { csr, rd, rs1 } => encode_csr(ctx, CsrOp::Write, false, csr, rd, rs1.0),
-        IllegalInst::Csrrs { csr, rd, rs1 } => encode_csr(ctx, CsrOp::Set, false, csr, rd, rs1.0),
-        IllegalInst::Csrrc { csr, rd, rs1 } => encode_csr(ctx, CsrOp::Clear, false, csr, rd, rs1.0),
-        IllegalInst::Csrrwi { csr, rd, uimm } => encode_csr(ctx, CsrOp::Write, true, csr, rd, uimm),
-        IllegalInst::Csrrsi { csr, rd, uimm } => encode_csr(ctx, CsrOp::Set, true, csr, rd, uimm),
-        IllegalInst::Csrrci { csr, rd, uimm } => encode_csr(ctx, CsrOp::Clear, true, csr, rd, uimm),
-        IllegalInst::Mret => Wrote::Word(0b00110000001000000000000001110011),
-        IllegalInst::Sret => Wrote::Word(0b00010000001000000000000001110011),
-        IllegalInst::Sfencevma { rs1, rs2 } => encode_fence(Fence::Vma, rs1, rs2),
-        IllegalInst::Hfencevvma { rs1, rs2 } => encode_fence(Fence::Vvma, rs1, rs2),
-        IllegalInst::Hfencegvma { rs1, rs2 } => encode_fence(Fence::Gvma, rs1, rs2),
+        IllegalInst::Wfi => Shape::Wfi,
+        IllegalInst::Csrrw { csr, rd, rs1 } => access_to(CsrOp::Write, false, csr, rd, rs1.0),
+        IllegalInst::Csrrs { csr, rd, rs1 } => access_to(CsrOp::Set, false, csr, rd, rs1.0),
+        IllegalInst::Csrrc { csr, rd, rs1 } => access_to(CsrOp::Clear, false, csr, rd, rs1.0),
+        IllegalInst::Csrrwi { csr, rd, uimm } => access_to(CsrOp::Write, true, csr, rd, uimm),
+        IllegalInst::Csrrsi { csr, rd, uimm } => access_to(CsrOp::Set, true, csr, rd, uimm),
+        IllegalInst::Csrrci { csr, rd, uimm } => access_to(CsrOp::Clear, true, csr, rd, uimm),
+        IllegalInst::Mret => Shape::Mret,
+        IllegalInst::Sret => Shape::Sret,
+        IllegalInst::Sfencevma { rs1, rs2 } => fence_with(Fence::Vma, rs1, rs2),
+        IllegalInst::Hfencevvma { rs1, rs2 } => fence_with(Fence::Vvma, rs1, rs2),
+        IllegalInst::Hfencegvma { rs1, rs2 } => fence_with(Fence::Gvma, rs1, rs2),
     }
 }
 
 // A CSR form; `src` is the number of rs1, or uimm.
-fn encode_csr(ctx: Profile, op: CsrOp, imm: bool, csr: Csr, rd: Register, src: usize) -> Wrote
-    ensures { λ r. ⌜ r ≡ writeShape (accessFor ctx op imm csr rd src) ⌝ }
+fn access_to(op: CsrOp, imm: bool, csr: Csr, rd: Register, src: usize) -> Shape
+    ensures { λ r. ⌜ r ≡ accessTo op imm csr (rd .0) src ⌝ }
 {
-    match csr_address(ctx, op, csr, rd, src) {
-        Idx::At(csr_id) => {
-            let word = (csr_id << 20)
+    let csr = match csr.idx() {
+        Idx::At(csr_id) => csr_id,
+        Idx::Refused(_) => NO_ADDRESS,
+    };
+    Shape::Access {
+        op,
+        imm,
+        csr,
+        rd: rd.0,
+        src,
+    }
+}
+
+fn fence_with(fence: Fence, rs1: Register, rs2: Register) -> Shape
+    ensures { λ r. ⌜ r ≡ Shape.Fence fence (rs1 .0) (rs2 .0) ⌝ }
+{
+    Shape::Fence {
+        fence,
+        rs1: rs1.0,
+        rs2: rs2.0,
+    }
+}
+
+// A shape that may hold any numbers, if the profile lets it be written: else 6, 7 or 8.
+fn checked(ctx: Profile, shape: Shape) -> Shaped
+    ensures { λ r. ⌜ shapeIn r ≡ checkedDef ctx shape ⌝ }
+{
+    match shape {
+        Shape::Wfi => Shaped::Is(shape),
+        Shape::Mret => Shaped::Is(shape),
+        Shape::Sret => Shaped::Is(shape),
+        Shape::Fence { rs1, rs2, .. } => {
+            if 31 < rs1 {
+                return Shaped::Refused(6);
+            }
+            if 31 < rs2 {
+                return Shaped::Refused(6);
+            }
+            Shaped::Is(shape)
+        }
+        Shape::Access {
+            op,
+            csr,
+            rd,
+            src,
+            ..
+        } => {
+            if 31 < rd {
+                return Shaped::Refused(6);
+            }
+            if 31 < src {
+                return Shaped::Refused(6);
+            }
+            if !csrs::is_available(ctx, csr) {
+                return Shaped::Refused(7);
+            }
+            if decoder::is_barred(csr, decoder::always_writes(op), src) {
+                return Shaped::Refused(8);
+            }
+            Shaped::Is(shape)
+        }
+    }
+}
+
+// The word of a shape whose numbers fit.
+fn word_of(shape: Shape) -> u64
+    requires { ⌜ Low shape ⌝ }
+    ensures { λ r. ⌜ Word r ≡ writeOf system speech shape ⌝ }
+{
+    match shape {
+        Shape::Wfi => 0b00010000010100000000000001110011,
+        Shape::Mret => 0b00110000001000000000000001110011,
+        Shape::Sret => 0b00010000001000000000000001110011,
+        Shape::Fence { fence, rs1, rs2 } => {
+            let word = fence_func7(fence)
+                | (rs2 << 20)
+                | (rs1 << 15)
+                | decoder::ILLEGAL_OPCODE_MASK;
+            word as u64
+        }
+        Shape::Access {
+            op,
+            imm,
+            csr,
+            rd,
+            src,
+        } => {
+            let word = (csr << 20)
                 | (src << 15)
                 | csr_func3(op, imm)
-                | (rd.0 << 7)
+                | (rd << 7)
                 | decoder::ILLEGAL_OPCODE_MASK;
-            Wrote::Word(word as u64)
+            word as u64
         }
-        Idx::Refused(n) => Wrote::Refused(n),
-    }
-}
-
-// The address at which an access can be written, or refusal 6, 7 or 8: what a word, a log record and a line of text have in common.
-pub fn csr_address(ctx: Profile, op: CsrOp, csr: Csr, rd: Register, src: usize) -> Idx
-    ensures { λ r. ⌜ r ≡ addressFor ctx op csr rd src ⌝ }
-{
-    if 31 < rd.0 {
-        return Idx::Refused(6);
-    }
-    if 31 < src {
-        return Idx::Refused(6);
-    }
-
-    let csr_id = match csr.idx() {
-        Idx::At(csr_id) => csr_id,
-        Idx::Refused(_) => return Idx::Refused(7),
-    };
-    match csrs::decode_csr(ctx, csr_id) {
-        CsrLookup::Found(_) => {}
-        CsrLookup::Missing => return Idx::Refused(7),
-    }
-
-    if decoder::is_barred(csr_id, always_writes(op), src) {
-        return Idx::Refused(8);
-    }
-    Idx::At(csr_id)
-}
-
-// CSRRW(I) always write, while CSRRS(I) and CSRRC(I) write only when rs1 is not x0 (resp. uimm is not 0).
-fn always_writes(op: CsrOp) -> bool
-    ensures { λ r. ⌜ r ≡ always op ⌝ }
-{
-    match op {
-        CsrOp::Write => true,
-        CsrOp::Set => false,
-        CsrOp::Clear => false,
     }
 }
 
@@ -98,20 +176,6 @@ fn csr_func3(op: CsrOp, imm: bool) -> usize
         CsrOp::Set => if imm { decoder::CSRRSI } else { decoder::CSRRS },
         CsrOp::Clear => if imm { decoder::CSRRCI } else { decoder::CSRRC },
     }
-}
-
-// A fence.
-fn encode_fence(fence: Fence, rs1: Register, rs2: Register) -> Wrote
-    ensures { λ r. ⌜ r ≡ writeShape (fenceFor fence rs1 rs2) ⌝ }
-{
-    if 31 < rs1.0 {
-        return Wrote::Refused(6);
-    }
-    if 31 < rs2.0 {
-        return Wrote::Refused(6);
-    }
-    let word = fence_func7(fence) | (rs2.0 << 20) | (rs1.0 << 15) | decoder::ILLEGAL_OPCODE_MASK;
-    Wrote::Word(word as u64)
 }
 
 // func7 in its place, which tells the fences apart.

@@ -8,7 +8,7 @@ use native.Mathlib.Nat.{lt-of-lt-of-le}
 use borrow.Author.Tests.{eqb-true, leb-true}
 use lib.Dec.{eqb, leb, ltb}
 use lib.Pow.{pow-mono}
-use Rattle.forms.specs.Layout.{Layout, const, take, given, avoid, Operand, all, every, bits, width, size, matches, spares, read, readable}
+use Rattle.forms.specs.Layout.{Layout, const, take, given, avoid, Operand, imm, rd, rs1, rs2, funct, csr, short, all, every, bits, width, size, matches, spares, read, readable}
 use Rattle.forms.specs.Table.{Kind, form, none, first, spread, ofWord, clash, sound}
 use Rattle.forms.specs.Speech.{Speech, Every, readAs, readOf}
 use Rattle.utils.proofs.Tests.{both, on}
@@ -100,6 +100,16 @@ number-is T S w n = go T
         (λ _ q. no-form n (S .make (read L w)) (sym q)) (λ _ q. go U q)
 
 -- ---- the operands of an instruction that is read: each has no more bits than `room` says
+-- how many bits an operand has at most, in every table of the repository
+abbrev pub room : Operand → ℕ
+room imm = 12
+room rd = 5
+room rs1 = 5
+room rs2 = 5
+room funct = 4
+room csr = 12
+room short = 1
+
 abbrev pub roomy : (Operand → ℕ) → Layout → Bool
 roomy room L = every (λ x. leb (size L x) (room x))
 

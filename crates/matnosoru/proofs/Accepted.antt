@@ -12,8 +12,8 @@ use Rattle.forms.specs.declared.Wrote.the-variants.{Word, Refused}
 use Rattle.forms.specs.Table.{Kind, form, none}
 use Rattle.forms.proofs.Table.{no-form}
 use Rattle.utils.proofs.Tests.{on}
-use Rattle.decoder.specs.System.{Shape}
-use Rattle.encoder.specs.System.{shapeFor}
+use Rattle.decoder.specs.declared.Shape.{Shape}
+use Rattle.encoder.specs.System.{ownShape, shapeFor, writeShape, encodeIllegalDef}
 use Rattle.memory_encoder.specs.LoadStore.{encodeLoadDef, encodeStoreDef}
 use Rattle.octets.specs.declared.Emitted.{Emitted}
 use Rattle.octets.specs.Bytes.{emitted, emittedOut}
@@ -22,7 +22,7 @@ use Rattle.records.specs.declared.Record.the-variants.{System, Load, Store, Ref
 use Rattle.refusals.specs.Refusals.{pairs}
 use Rattle.records.specs.Record.{shaped, ifWord, recordDef}
 use Rattle.records.proofs.Lengths.{at-most}
-use Rattle.records.proofs.Words.{system-word}
+use Rattle.encoder.proofs.System.{checked-word}
 use Rattle.traplog.specs.declared.RecordRead.{RecordRead}
 use Rattle.traplog.specs.declared.RecordRead.the-variants.{Got}
 use Rattle.traplog.specs.Read.{parse}
@@ -47,11 +47,11 @@ test-answers true x y n cs e = (y, refl)
 test-answers false x y n cs e = no-form n cs e
 
 answers : (p : Profile) (r : Record) (bs : List ℕ) → recordDef p r ≡ form bs → Answered (answerOf p r)
-unfolding recordDef
+unfolding recordDef encodeIllegalDef
 answers p (System i) bs e = go (shapeFor p i) refl e
   where
     go : (k : Kind Shape) → shapeFor p i ≡ k → shaped k ≡ form bs → Answered (answerOf p (System i))
-    go (form s) q f = let t = system-word p i s q in (_, ap (worded false) (t .1))
+    go (form s) q f = let t = checked-word p (ownShape i) s q in (_, ap (λ (k : Kind Shape). worded false (writeShape k)) q ∙ ap (worded false) (t .1 .0))
     go (none n) q f = no-form n bs f
 answers p (Load i) bs e = word-answers (i .«is_compressed») (encodeLoadDef p i) _ bs e
 answers p (Store i) bs e = word-answers (i .«is_compressed») (encodeStoreDef p i) _ bs e
