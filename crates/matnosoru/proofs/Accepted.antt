@@ -10,16 +10,16 @@ use Rattle.forms.specs.Table.{form}
 use Rattle.utils.proofs.Tests.{on}
 use Rattle.octets.specs.declared.Emitted.{Emitted}
 use Rattle.octets.specs.Bytes.{emitted, emittedOut}
-use Rattle.records.specs.declared.Record.{Record}
-use Rattle.records.proofs.Lengths.{at-most}
-use Rattle.traplog.specs.declared.RecordRead.{RecordRead}
-use Rattle.traplog.specs.declared.RecordRead.the-variants.{Got}
-use Rattle.traplog.specs.Read.{parse}
-use Rattle.traplog.proofs.Accepted.{passed}
-use Rattle.lines.specs.declared.Line.{Line}
-use Rattle.lines.specs.Lines.{lineOf, textOf}
+use Rattle.log_records.specs.declared.Record.{Record}
+use Rattle.log_records.proofs.Lengths.{at-most}
+use Rattle.log_reader.specs.declared.RecordRead.{RecordRead}
+use Rattle.log_reader.specs.declared.RecordRead.the-variants.{Got}
+use Rattle.log_reader.specs.Read.{parse}
+use Rattle.log_reader.proofs.Accepted.{passed}
+use Rattle.text.specs.declared.Line.{Line}
+use Rattle.text.specs.Lines.{lineOf, textOf}
 use Rattle.listing.specs.Listing.{answerOf, recordLine}
-use Rattle.lines.proofs.Fits.{text-back}
+use Rattle.text.proofs.Fits.{text-back}
 use Rattle.listing.proofs.Answers.{answers}
 use Rattle.listing.proofs.Fits.{record-fits}
 use Rattle.matnosoru.specs.Abi.{Short, lineAnswer, lineDef, lineOut}

@@ -6,10 +6,10 @@ use Prim.Native.Nat.{ℕ, _*_, _^_}
 use borrow.Author.Tests.{eq-eqb, ne-eqb}
 use lib.Dec.{eqb}
 use lib.ListN.{length}
-use Rattle.tables.specs.declared.Difference.{Difference}
-use Rattle.tables.specs.declared.Table.{Table}
-use Rattle.tables.specs.Table.{tableOf, FirstDifference}
-use Rattle.tables.proofs.Tables.{first-once}
+use Rattle.harts.specs.declared.Difference.{Difference}
+use Rattle.harts.specs.declared.Table.{Table}
+use Rattle.harts.specs.Table.{tableOf, FirstDifference}
+use Rattle.harts.proofs.Tables.{first-once}
 use Rattle.matnosoru.specs.Abi.{place, Compared, TablesDiffer}
 
 -- the contract determines the answer

@@ -4,8 +4,8 @@ use lib.ListN.{length}
 use native.Mathlib.Omega.{arith}
 use denote.Ref.{now}
 use Rattle.profiles.specs.declared.Profile.{Profile}
-use Rattle.traplog.specs.declared.RecordRead.{RecordRead}
-use Rattle.traplog.specs.Read.{parse}
+use Rattle.log_reader.specs.declared.RecordRead.{RecordRead}
+use Rattle.log_reader.specs.Read.{parse}
 use Rattle.matnosoru.specs.Abi.{profile, lineDef, lineOut}
 use Rattle.matnosoru.proofs.Accepted.{line-small, line-is, line-out}
 use borrow.Author.Needs.{needs}

@@ -2,7 +2,7 @@
 use mathlib.Core.Path.{sym, ap, _∙_}
 use denote.Ref.{now}
 use Rattle.profiles.specs.declared.Profile.{Profile}
-use Rattle.traplog.specs.Read.{parse}
+use Rattle.log_reader.specs.Read.{parse}
 use Rattle.matnosoru.specs.Abi.{recordLength}
 use borrow.Author.Needs.{needs}
 use Rattle.matnosoru.proofs.matnosoru_read_record.Statement.{statement}

@@ -1,8 +1,8 @@
 -- `matnosoru::matnosoru_tables_differ` meets its contract: each exit by the tests on its way. Assumes nothing.
 use mathlib.Core.Path.{sym, ap, subst, _∙_}
 use denote.Ref.{now}
-use Rattle.tables.specs.declared.Difference.{Difference}
-use Rattle.tables.specs.Table.{FirstDifference}
+use Rattle.harts.specs.declared.Difference.{Difference}
+use Rattle.harts.specs.Table.{FirstDifference}
 use Rattle.matnosoru.specs.Abi.{place}
 use Rattle.matnosoru.proofs.Tables.{first-short, second-short, both-long}
 use borrow.Author.Needs.{needs}

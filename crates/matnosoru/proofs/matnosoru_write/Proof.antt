@@ -1,7 +1,7 @@
 -- `matnosoru::matnosoru_write` meets its contract. Assumes nothing.
 use mathlib.Core.Path.{ap, _∙_}
 use Rattle.profiles.specs.declared.Profile.{Profile}
-use Rattle.word_writer.specs.Words.{crossed, written}
+use Rattle.instruction_word.specs.Written.{crossed, written}
 use borrow.Author.Needs.{needs}
 use Rattle.matnosoru.proofs.matnosoru_write.Statement.{statement}
 use Rattle.matnosoru.proofs.matnosoru_write.Tie as tie

@@ -2,7 +2,7 @@
 use mathlib.Core.Path.{ap, _∙_}
 use denote.Ref.{now}
 use Rattle.profiles.specs.declared.Profile.{Profile}
-use Rattle.word_writer.specs.Words.{crossed, written}
+use Rattle.instruction_word.specs.Written.{crossed, written}
 use Rattle.matnosoru.specs.Abi.{profile}
 use Rattle.matnosoru.proofs.Crossing.{not-put, kind-low, put}
 use borrow.Author.Needs.{needs}

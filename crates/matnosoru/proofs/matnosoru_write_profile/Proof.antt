@@ -4,8 +4,8 @@ use lib.ListN.{length}
 use denote.Ref.{now}
 use Rattle.profiles.specs.declared.Profile.{Profile}
 use Rattle.profiles.specs.Profile.{emptyProfile}
-use Rattle.records.specs.declared.Record.the-variants.{Hart}
-use Rattle.records.specs.Record.{recordDef, writtenDef, writtenOut}
+use Rattle.log_records.specs.declared.Record.the-variants.{Hart}
+use Rattle.log_records.specs.Record.{recordDef, writtenDef, writtenOut}
 use Rattle.matnosoru.specs.Abi.{length-or}
 use borrow.Author.Needs.{needs}
 use Rattle.matnosoru.proofs.matnosoru_write_profile.Statement.{statement}

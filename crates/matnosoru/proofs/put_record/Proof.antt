@@ -7,7 +7,7 @@ use denote.Ref.{now}
 use Rattle.profiles.specs.declared.Profile.{Profile}
 use Rattle.profiles.specs.Profile.{emptyProfile}
 use Rattle.forms.specs.Table.{Kind}
-use Rattle.records.specs.Record.{recordDef, writtenDef, writtenOut}
+use Rattle.log_records.specs.Record.{recordDef, writtenDef, writtenOut}
 use Rattle.matnosoru.specs.Abi.{length-or}
 use borrow.Author.Needs.{needs}
 use Rattle.matnosoru.proofs.put_record.Statement.{statement}

@@ -7,8 +7,8 @@ use lib.ListN.{length, take}
 use lib.Seq.{length-take-le}
 use denote.Ref.{now}
 use Rattle.octets.specs.Bytes.{leBytes, emitted, emittedOut}
-use Rattle.kinds.specs.Length.{lengthOf}
-use Rattle.word_writer.proofs.Writing.{short-kind}
+use Rattle.log_kinds.specs.Length.{lengthOf}
+use Rattle.instruction_word.proofs.Writing.{short-kind}
 use Rattle.matnosoru.specs.Abi.{length-or}
 use Rattle.matnosoru.proofs.Crossing.{front}
 use borrow.Author.Needs.{needs}

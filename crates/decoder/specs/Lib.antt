@@ -1,4 +1,0 @@
-pub mod Forms
-pub mod System
-pub mod Grounds
-pub mod Words01

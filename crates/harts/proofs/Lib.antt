@@ -1,0 +1,3 @@
+pub mod Tables
+mod Eight
+pub mod Current

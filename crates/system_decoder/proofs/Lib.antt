@@ -1,0 +1,6 @@
+pub mod SystemMasks
+pub mod SystemLines
+pub mod SystemSteps
+pub mod Legal
+pub mod Sentence
+pub mod Codes

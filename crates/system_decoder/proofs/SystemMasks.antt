@@ -1,0 +1,31 @@
+-- The masks of the SYSTEM reading's code as fields of the word. Assumes nothing.
+use mathlib.Core.Path.{_≡_, refl, sym, ap, _∙_}
+use mathlib.Core.Bool.{Bool, true, false}
+use Prim.Native.Nat.{ℕ, _+_, _*_, _/_, _%_, _^_, _<_}
+use native.Mathlib.Nat.{mod-eq-of-lt, div-add-mod'}
+use native.Mathlib.Omega.{arith}
+use borrow.Author.Tests.{eq-eqb, ne-eqb, eqb-true, eqb-false}
+use lib.Bits.{bitAnd, and-mask, and-high, and-shr, and-mod}
+use lib.Dec.{eqb}
+use Rattle.utils.specs.Field.{fld}
+use Rattle.system_decoder.specs.System.{readOnly}
+
+-- (a & 0b11 << 10) == 0b11 << 10
+pub access-test : (a : ℕ) → eqb (bitAnd a 3072) 3072 ≡ readOnly a
+access-test a = ap (λ (x : ℕ). eqb x 3072) (and-high a 2 10) ∙ go (fld a 10 2) (eqb (fld a 10 2) 3) refl
+  where
+    go : (x : ℕ) (b : Bool) → eqb x 3 ≡ b → eqb (x * 2 ^ 10) 3072 ≡ b
+    go x true e = let z = eqb-true x 3 e in eq-eqb (x * 2 ^ 10) 3072 (omega arith)
+    go x false e = let z = eqb-false x 3 e in ne-eqb (x * 2 ^ 10) 3072 (λ q. z (omega arith))
+
+-- w & !0b1111111111000000001111111: bits 14:7, and everything from bit 25 up
+pub fence-mask : (w : ℕ) → w < 2 ^ 64 → bitAnd w 18446744073676029824 ≡ w / 2 ^ 25 * 2 ^ 25 + fld w 7 8 * 2 ^ 7
+fence-mask w h =
+    sym (div-add-mod' (bitAnd w 18446744073676029824) (2 ^ 25))
+    ∙ (λ j. (and-shr w 18446744073676029824 25 ∙ and-mask (w / 2 ^ 25) 39 ∙ mod-eq-of-lt (top w h)) j * 2 ^ 25 + (and-mod w 18446744073676029824 25 ∙ and-high (w % 2 ^ 25) 8 7 ∙ low w) j)
+  where
+    top : (x : ℕ) → x < 2 ^ 64 → x / 2 ^ 25 < 2 ^ 39
+    top x h = omega arith
+
+    low : (x : ℕ) → x % 2 ^ 25 / 2 ^ 7 % 2 ^ 8 * 2 ^ 7 ≡ x / 2 ^ 7 % 2 ^ 8 * 2 ^ 7
+    low x = omega arith

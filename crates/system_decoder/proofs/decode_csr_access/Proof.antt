@@ -1,0 +1,35 @@
+-- `system_decoder::decode_csr_access` meets its contract: each exit knows the test and the look-up. Assumes nothing.
+use mathlib.Core.Path.{_≡_, refl, sym, ap, _∙_}
+use mathlib.Core.Bool.{Bool, cond}
+use borrow.Author.Needs.{needs}
+use Rattle.csrs.specs.declared.CsrLookup.{CsrLookup}
+use Rattle.csrs.specs.Gates.{decodeCsrDef}
+use Rattle.system_decoder.specs.declared.IllegalRead.the-variants.{Inst, InvalidCsrOp}
+use Rattle.system_decoder.specs.declared.Shape.the-variants.{Access as access}
+use Rattle.system_decoder.specs.System.{barredDef, foundDef, instAt}
+use Rattle.system_decoder.proofs.decode_csr_access.Statement.{statement}
+use Rattle.system_decoder.proofs.decode_csr_access.Tie as tie
+
+answer : (c : tie.After-is-barred) {b : Bool} → c .is-barred .result ≡ b → {k : CsrLookup} → k ≡ decodeCsrDef (c .before .before .args .ctx) (c .before .before .args .csr-id)
+    → cond b InvalidCsrOp (foundDef k (c .before .before .args .op) (c .before .before .args .imm) (c .before .before .args .rd) (c .before .before .args .src)) ≡ instAt (c .before .before .args .ctx) (access (c .before .before .args .op) (c .before .before .args .imm) (c .before .before .args .csr-id) (c .before .before .args .rd) (c .before .before .args .src))
+answer c e l =
+    let a = c .before .before .args in
+    λ j. cond ((sym e ∙ c .is-barred .ensures ∙ ap (λ (y : Bool). barredDef (a .csr-id) y (a .src)) (c .before .always-writes .ensures)) j) InvalidCsrOp (foundDef (l j) (a .op) (a .imm) (a .rd) (a .src))
+
+pub decode-csr-access-spec : {M : Type 1} → statement M
+decode-csr-access-spec =
+    tie.close
+    (tie.spec
+    (λ c κs. search needs)
+    (λ c κs. search needs)
+    (λ c. answer (c .before) (c .if1 .taken) refl)
+    (λ c κs. search needs)
+    (λ c. search needs)
+    (λ c. search needs)
+    (λ c.
+    let l = c .before .before in
+    answer (l .before .before) (l .before .if1 .left) (sym (c .enum-told .given .1) ∙ l .decode-csr .ensures))
+    (λ c κs. search needs)
+    (λ c.
+    let l = c .before .before .before .before in
+    ap Inst (c .access-of .ensures) ∙ answer (l .before .before) (l .before .if1 .left) (sym (c .before .before .csr .given .1) ∙ l .decode-csr .ensures)))

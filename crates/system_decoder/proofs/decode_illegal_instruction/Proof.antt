@@ -1,0 +1,25 @@
+-- `system_decoder::decode_illegal_instruction` meets its contract: each arm knows the shape. Assumes nothing.
+use mathlib.Core.Path.{sym, ap, _∙_}
+use borrow.Author.Needs.{needs}
+use Rattle.system_decoder.specs.System.{shapeIn, readShape, illegalDef}
+use Rattle.system_decoder.specs.declared.Shaped.{Shaped}
+use Rattle.system_decoder.proofs.decode_illegal_instruction.Statement.{statement}
+use Rattle.system_decoder.proofs.decode_illegal_instruction.Tie as tie
+
+pub decode-illegal-instruction-spec : {M : Type 1} → statement M
+unfolding illegalDef
+decode-illegal-instruction-spec =
+    tie.close
+    (tie.spec
+    (λ c κs. search needs)
+    (λ c. search needs)
+    (λ c κs. search needs)
+    (λ c. search needs)
+    (λ c.
+    let s = c .before .before .before .before in
+    let p = s .before .args .ctx in
+    c .instruction-of .ensures ∙ ap (λ (k : Shaped). readShape p (shapeIn k)) (sym (c .before .before .shape .given .1)) ∙ ap (readShape p) (s .shape-at .ensures .0))
+    (λ c.
+    let s = c .before .before in
+    let p = s .before .args .ctx in
+    ap (λ (k : Shaped). readShape p (shapeIn k)) (sym (c .enum-told .given .1)) ∙ ap (readShape p) (s .shape-at .ensures .0)))

@@ -1,0 +1,120 @@
+-- What each exit of the SYSTEM writing's functions knows is what the definition asks there. Assumes nothing.
+use mathlib.Core.Path.{_≡_, refl, sym, ap, subst, _∙_}
+use mathlib.Core.Bool.{Bool, true, false, _||_, not, cond}
+use mathlib.Core.List.{[], _∷_}
+use Prim.Native.Nat.{ℕ, _-_, _*_, _%_, _^_, _≤_, _<_}
+use native.Mathlib.Nat.{mod-eq-of-lt}
+use native.Mathlib.Omega.{arith}
+use borrow.Author.Tests.{le-leb, lt-leb, not-true, not-false}
+use lib.Bits.{bitAnd, bitOr, and-mask}
+use lib.Dec.{leb}
+use Rattle.forms.specs.declared.Wrote.the-variants.{Word}
+use Rattle.forms.specs.Layout.{Layout, Operand, imm, rd, rs1, rs2, funct, csr, short, all, width, holds, good, build}
+use Rattle.forms.specs.Table.{form, none, first}
+use Rattle.forms.specs.Speech.{writeAs, writeOf, put}
+use Rattle.forms.proofs.Facts.{under}
+use Rattle.forms.proofs.Choices.{Told, exactly, such, KnownAs, picks, drops, by-operands}
+use Rattle.forms.proofs.Shifts.{orBuild, put-together}
+use Rattle.utils.specs.declared.Code.the-variants.{Is, Out}
+use Rattle.system_decoder.specs.declared.CsrOp.{CsrOp}
+use Rattle.system_decoder.specs.declared.CsrOp.the-variants.{Write, Set, Clear}
+use Rattle.system_decoder.specs.declared.Fence.{Fence}
+use Rattle.system_decoder.specs.declared.Fence.the-variants.{Vma, Vvma, Gvma}
+use Rattle.system_decoder.specs.Forms.{funct7, sfence-vma, hfence-vvma, hfence-gvma, csrrw, csrrs, csrrc, csrrwi, csrrsi, csrrci, system}
+use Rattle.system_decoder.specs.declared.Shape.{Shape}
+use Rattle.system_decoder.specs.declared.Shape.the-variants.{Fence as fence, Access as access}
+use Rattle.system_decoder.specs.System.{operands, operandsOf, funct3, always, barredDef, speech}
+use Rattle.profiles.specs.declared.Profile.{Profile}
+use Rattle.csrs.specs.Gates.{available}
+use Rattle.system_encoder.specs.System.{below32, reached, checkedDef}
+
+-- ---- 6: z is the refusal
+pub first-6 : {X : Type 0} (a b : ℕ) (k z : X) → 31 < a → z ≡ below32 a b k z
+first-6 a b k z h = rw (lt-leb a 31 h)
+
+pub second-6 : {X : Type 0} (a b : ℕ) (k z : X) → a ≤ 31 → 31 < b → z ≡ below32 a b k z
+second-6 a b k z g h = rw (le-leb a 31 g, lt-leb b 31 h)
+
+pub past-6 : {X : Type 0} (a b : ℕ) (k z : X) → a ≤ 31 → b ≤ 31 → k ≡ below32 a b k z
+past-6 a b k z g h = rw (le-leb a 31 g, le-leb b 31 h)
+
+-- ---- the words
+-- what is known of a shape's operands: of the line's number, rd, rs1, rs2 and the CSR
+abbrev told : ℕ → Told → Told → Told → Told → Operand → Told
+told k d a b c imm = such []
+told k d a b c rd = d
+told k d a b c rs1 = a
+told k d a b c rs2 = b
+told k d a b c funct = exactly k
+told k d a b c csr = c
+told k d a b c short = exactly 0
+
+-- a shape of which this settles that the line is L is written by L
+module _ (s : Shape) (ks : Operand → Told) (h : (x : Operand) → KnownAs (operandsOf s x) (ks x)) (L : Layout) where
+  by-line : all (λ M. drops ks M || picks ks M) system ≡ true → first (λ M. not (drops ks M)) system 6 ≡ form L → holds L imm 0 ≡ true → good L ≡ true → leb (width L) 64 ≡ true
+      → {r : ℕ} → r ≡ orBuild L (operandsOf s) → Word r ≡ writeOf system speech s
+  by-line t f i g l e =
+      ap Word (e ∙ put-together L g l (operandsOf s)) ∙ ap (λ (b : Bool). put (cond b (Is 0) Out) (build L (operandsOf s))) (sym i)
+      ∙ ap (writeAs speech s) (sym f) ∙ sym (by-operands system speech refl s ks h t)
+
+-- the code does not mask what it has tested
+unmasked : (n x : ℕ) → x < 2 ^ n → x ≡ bitAnd x (2 ^ n - 1)
+unmasked n x h = sym (and-mask x n ∙ mod-eq-of-lt h)
+
+-- (a << 20) | (x << 15) | f | (d << 7) | 0x73
+abbrev pub accessWord : ℕ → ℕ → ℕ → ℕ → ℕ
+accessWord a x f d = bitOr (bitOr (bitOr (bitOr ((a * 2 ^ 20) % 2 ^ 64) ((x * 2 ^ 15) % 2 ^ 64)) f) ((d * 2 ^ 7) % 2 ^ 64)) 0x73
+
+module _ (a d x : ℕ) (la : a < 2 ^ 12) (ld : d ≤ 31) (lx : x ≤ 31) where
+  abbrev accessTold : ℕ → Operand → Told
+  accessTold k = told k (such (under 5 ∷ [])) (such (under 5 ∷ [])) (exactly 0) (such (under 12 ∷ []))
+
+  known : (s : Shape) (k : ℕ) → operandsOf s ≡ operands k d x 0 a → (y : Operand) → KnownAs (operandsOf s y) (accessTold k y)
+  known s k e =
+      subst (λ (env : Operand → ℕ). (y : Operand) → KnownAs (env y) (accessTold k y)) (sym e)
+      (elim [ imm ↦ tt | rd ↦ (omega arith, tt) | rs1 ↦ (omega arith, tt) | rs2 ↦ refl | funct ↦ refl | csr ↦ (la, tt) | short ↦ refl ])
+
+  masks : (f : ℕ) → accessWord a x f d ≡ accessWord (bitAnd a 4095) (bitAnd x 31) f (bitAnd d 31)
+  masks f = λ j. accessWord (unmasked 12 a la j) (unmasked 5 x (omega arith) j) f (unmasked 5 d (omega arith) j)
+
+  pub access-word : (o : CsrOp) (m : Bool) → Word (accessWord a x (funct3 o m * 2 ^ 12) d) ≡ writeOf system speech (access o m a d x)
+  access-word Write false = by-line (access Write false a d x) (accessTold 6) (known (access Write false a d x) 6 refl) csrrw refl refl refl refl refl (masks 0x1000)
+  access-word Set false = by-line (access Set false a d x) (accessTold 7) (known (access Set false a d x) 7 refl) csrrs refl refl refl refl refl (masks 0x2000)
+  access-word Clear false = by-line (access Clear false a d x) (accessTold 8) (known (access Clear false a d x) 8 refl) csrrc refl refl refl refl refl (masks 0x3000)
+  access-word Write true = by-line (access Write true a d x) (accessTold 9) (known (access Write true a d x) 9 refl) csrrwi refl refl refl refl refl (masks 0x5000)
+  access-word Set true = by-line (access Set true a d x) (accessTold 10) (known (access Set true a d x) 10 refl) csrrsi refl refl refl refl refl (masks 0x6000)
+  access-word Clear true = by-line (access Clear true a d x) (accessTold 11) (known (access Clear true a d x) 11 refl) csrrci refl refl refl refl refl (masks 0x7000)
+
+-- f | (b << 20) | (a << 15) | 0x73
+abbrev pub fenceWord : ℕ → ℕ → ℕ → ℕ
+fenceWord f a b = bitOr (bitOr (bitOr f ((b * 2 ^ 20) % 2 ^ 64)) ((a * 2 ^ 15) % 2 ^ 64)) 0x73
+
+module _ (a b : ℕ) (la : a ≤ 31) (lb : b ≤ 31) where
+  abbrev fenceTold : ℕ → Operand → Told
+  fenceTold k = told k (exactly 0) (such (under 5 ∷ [])) (such (under 5 ∷ [])) (exactly 0)
+
+  fence-known : (s : Shape) (k : ℕ) → operandsOf s ≡ operands k 0 a b 0 → (y : Operand) → KnownAs (operandsOf s y) (fenceTold k y)
+  fence-known s k e =
+      subst (λ (env : Operand → ℕ). (y : Operand) → KnownAs (env y) (fenceTold k y)) (sym e)
+      (elim [ imm ↦ tt | rd ↦ refl | rs1 ↦ (omega arith, tt) | rs2 ↦ (omega arith, tt) | funct ↦ refl | csr ↦ refl | short ↦ refl ])
+
+  fence-masks : (f : ℕ) → fenceWord f a b ≡ fenceWord f (bitAnd a 31) (bitAnd b 31)
+  fence-masks f = λ j. fenceWord f (unmasked 5 a (omega arith) j) (unmasked 5 b (omega arith) j)
+
+  pub fence-word : (f : Fence) → Word (fenceWord (funct7 f * 2 ^ 25) a b) ≡ writeOf system speech (fence f a b)
+  fence-word Vma = by-line (fence Vma a b) (fenceTold 3) (fence-known (fence Vma a b) 3 refl) sfence-vma refl refl refl refl refl (fence-masks (funct7 Vma * 2 ^ 25))
+  fence-word Vvma = by-line (fence Vvma a b) (fenceTold 4) (fence-known (fence Vvma a b) 4 refl) hfence-vvma refl refl refl refl refl (fence-masks (funct7 Vvma * 2 ^ 25))
+  fence-word Gvma = by-line (fence Gvma a b) (fenceTold 5) (fence-known (fence Gvma a b) 5 refl) hfence-gvma refl refl refl refl refl (fence-masks (funct7 Gvma * 2 ^ 25))
+
+-- ---- 7 and 8: t is what `is_available` gave, b what `is_barred` gave
+module _ (p : Profile) (o : CsrOp) (m : Bool) (a d x : ℕ) (ld : d ≤ 31) (lx : x ≤ 31) {t : Bool} (e : t ≡ available p a) where
+  asked : (u : Bool) → t ≡ u → {b : Bool} → b ≡ barredDef a (always o) x → reached u b (access o m a d x) ≡ checkedDef p (access o m a d x)
+  asked u q v =
+      (λ j. reached ((sym q ∙ e) j) (v j) (access o m a d x)) ∙ past-6 d x (reached (available p a) (barredDef a (always o) x) (access o m a d x)) (none 6) ld lx
+
+  pub unavailable : not t ≡ true → none 7 ≡ checkedDef p (access o m a d x)
+  unavailable q = asked false (not-true t q) refl
+
+  module _ (q : not t ≡ false) {w : Bool} (v : w ≡ always o) {b : Bool} (k : b ≡ barredDef a w x) where
+    pub barring : {c : Bool} → b ≡ c → reached true c (access o m a d x) ≡ checkedDef p (access o m a d x)
+    barring z = asked true (not-false t q) (sym z ∙ k ∙ ap (λ (y : Bool). barredDef a y x) v)

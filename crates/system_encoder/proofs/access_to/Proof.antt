@@ -1,0 +1,24 @@
+-- `system_encoder::access_to` meets its contract: each arm knows what `idx` gave. Assumes nothing.
+use mathlib.Core.Path.{sym, ap, _∙_}
+use borrow.Author.Needs.{needs}
+use Rattle.registers.specs.declared.Idx.{Idx}
+use Rattle.system_decoder.specs.declared.Shape.the-variants.{Access as access}
+use Rattle.system_encoder.specs.System.{placeOf}
+use Rattle.system_encoder.proofs.access_to.Statement.{statement}
+use Rattle.system_encoder.proofs.access_to.Tie as tie
+
+pub access-to-spec : {M : Type 1} → statement M
+access-to-spec =
+    tie.close
+    (tie.spec
+    (λ c κs. search needs)
+    (λ c. search needs)
+    (λ c. search needs)
+    (λ c.
+    let i = c .before .before .before in
+    let a = i .before .args in
+    ap (λ (y : Idx). access (a .op) (a .imm) (placeOf y) (a .rd .0) (a .src)) (sym (c .before .csr-id .given .1) ∙ i .idx .ensures))
+    (λ c.
+    let i = c .before .before in
+    let a = i .before .args in
+    ap (λ (y : Idx). access (a .op) (a .imm) (placeOf y) (a .rd .0) (a .src)) (sym (c .enum-told .given .1) ∙ i .idx .ensures)))
