@@ -65,8 +65,8 @@ pub fn decode_load(ctx: Profile, raw: usize) -> LoadRead
         // Register-based load and store instructions for C set start with 0b00
         0b00 => decode_register_based_compressed_load(ctx, raw),
         // Stack-based load and store instructions for C set start with 0b10
-        0b10 => LoadRead::Refused(5),
-        _ => LoadRead::Refused(3),
+        0b10 => LoadRead::Refused(refusals::STACK_FORM),
+        _ => LoadRead::Refused(refusals::NOT_THE_FORM),
     }
 }
 
@@ -79,8 +79,8 @@ pub fn decode_store(ctx: Profile, raw: usize) -> StoreRead
         // Register-based load and store instructions for C set start with 0b00
         0b00 => decode_register_based_compressed_store(ctx, raw),
         // Stack-based load and store instructions for C set start with 0b10
-        0b10 => StoreRead::Refused(5),
-        _ => StoreRead::Refused(3),
+        0b10 => StoreRead::Refused(refusals::STACK_FORM),
+        _ => StoreRead::Refused(refusals::NOT_THE_FORM),
     }
 }
 
@@ -109,7 +109,7 @@ fn decode_register_based_compressed_load(ctx: Profile, raw: usize) -> LoadRead
             is_compressed: true,
             is_unsigned: false,
         }),
-        _ => LoadRead::Refused(3),
+        _ => LoadRead::Refused(refusals::NOT_THE_FORM),
     }
 }
 
@@ -136,7 +136,7 @@ fn decode_register_based_compressed_store(ctx: Profile, raw: usize) -> StoreRead
             len: Width::Byte8,
             is_compressed: true,
         }),
-        _ => StoreRead::Refused(3),
+        _ => StoreRead::Refused(refusals::NOT_THE_FORM),
     }
 }
 
@@ -145,11 +145,11 @@ fn decode_uncompressed_load(ctx: Profile, raw: usize) -> LoadRead
     ensures { λ r. ⌜ r ≡ loadDef ctx raw ⌝ }
 {
     if raw & 0b1111111 != 0x03 {
-        return LoadRead::Refused(3);
+        return LoadRead::Refused(refusals::NOT_THE_FORM);
     }
     let func3 = (raw >> 12) & 0b111;
     if func3 == 0b111 {
-        return LoadRead::Refused(4);
+        return LoadRead::Refused(refusals::WIDTH);
     }
     let rd = registers::register_at(raw, 7);
     let rs1 = registers::register_at(raw, 15);
@@ -170,11 +170,11 @@ fn decode_uncompressed_store(ctx: Profile, raw: usize) -> StoreRead
     ensures { λ r. ⌜ r ≡ storeDef ctx raw ⌝ }
 {
     if raw & 0b1111111 != 0x23 {
-        return StoreRead::Refused(3);
+        return StoreRead::Refused(refusals::NOT_THE_FORM);
     }
     let func3 = (raw >> 12) & 0b111;
     if 0b011 < func3 {
-        return StoreRead::Refused(4);
+        return StoreRead::Refused(refusals::WIDTH);
     }
     let rs1 = registers::register_at(raw, 15);
     let rs2 = registers::register_at(raw, 20);

@@ -23,25 +23,25 @@ pub fn encode_load(ctx: Profile, load: LoadInstr) -> Wrote
     let imm = load.imm;
     let len = load.len;
     if 31 < rd {
-        return Wrote::Refused(6);
+        return Wrote::Refused(refusals::REGISTER);
     }
     if 31 < rs1 {
-        return Wrote::Refused(6);
+        return Wrote::Refused(refusals::REGISTER);
     }
     if load.is_compressed {
         if load.is_unsigned {
-            return Wrote::Refused(9);
+            return Wrote::Refused(refusals::NO_FORM);
         }
         return encode_compressed(0b010, rd, rs1, imm, len);
     }
     let func3 = load_func3(len, load.is_unsigned);
     // There is no unsigned load of 64 bits
     if func3 == 0b111 {
-        return Wrote::Refused(9);
+        return Wrote::Refused(refusals::NO_FORM);
     }
     match utils::code_of(imm, HALF) {
         Code::Is(code) => Wrote::Word(load_word(rd, rs1, func3, code)),
-        Code::Out => Wrote::Refused(10),
+        Code::Out => Wrote::Refused(refusals::IMMEDIATE),
     }
 }
 
@@ -54,10 +54,10 @@ pub fn encode_store(ctx: Profile, store: StoreInstr) -> Wrote
     let imm = store.imm;
     let len = store.len;
     if 31 < rs2 {
-        return Wrote::Refused(6);
+        return Wrote::Refused(refusals::REGISTER);
     }
     if 31 < rs1 {
-        return Wrote::Refused(6);
+        return Wrote::Refused(refusals::REGISTER);
     }
     if store.is_compressed {
         return encode_compressed(0b110, rs2, rs1, imm, len);
@@ -65,7 +65,7 @@ pub fn encode_store(ctx: Profile, store: StoreInstr) -> Wrote
     let func3 = size_of(len);
     match utils::code_of(imm, HALF) {
         Code::Is(code) => Wrote::Word(store_word(rs2, rs1, func3, code)),
-        Code::Out => Wrote::Refused(10),
+        Code::Out => Wrote::Refused(refusals::IMMEDIATE),
     }
 }
 
@@ -79,21 +79,21 @@ fn encode_compressed(func3: usize, reg: usize, base: usize, imm: isize, len: Wid
     ensures { λ r. ⌜ Compressed func3 reg base imm len r ⌝ }
 {
     if reg / 8 != 1 {
-        return Wrote::Refused(9);
+        return Wrote::Refused(refusals::NO_FORM);
     }
     if base / 8 != 1 {
-        return Wrote::Refused(9);
+        return Wrote::Refused(refusals::NO_FORM);
     }
     match len {
         Width::Byte4 => match offset(imm, 4, 128) {
             Code::Is(code) => Wrote::Word(compressed_word(func3, reg, base, code)),
-            Code::Out => Wrote::Refused(10),
+            Code::Out => Wrote::Refused(refusals::IMMEDIATE),
         },
         Width::Byte8 => match offset(imm, 8, 256) {
             Code::Is(code) => Wrote::Word(compressed_double(func3 + 1, reg, base, code)),
-            Code::Out => Wrote::Refused(10),
+            Code::Out => Wrote::Refused(refusals::IMMEDIATE),
         },
-        _ => Wrote::Refused(9),
+        _ => Wrote::Refused(refusals::NO_FORM),
     }
 }
 

@@ -481,7 +481,7 @@ impl Csr {
             Csr::Pmpcfg(id) => if id % 2 == 0 {
                 numbered(id, 14, address::PMPCFG0)
             } else {
-                Idx::Refused(7) // Invalid on rv64
+                Idx::Refused(refusals::CSR) // Invalid on rv64
             },
             Csr::Pmpaddr(id) => numbered(id, 63, address::PMPADDR0),
             Csr::Mcycle => Idx::At(address::MCYCLE),
@@ -568,11 +568,11 @@ impl Csr {
             // Custom CSRs
             Csr::Custom(addr) => {
                 if addr < address::CUSTOM0 {
-                    Idx::Refused(7)
+                    Idx::Refused(refusals::CSR)
                 } else if addr <= address::CUSTOM63 {
                     Idx::At(addr)
                 } else {
-                    Idx::Refused(7)
+                    Idx::Refused(refusals::CSR)
                 }
             }
         }
@@ -587,6 +587,6 @@ fn numbered(id: usize, last: usize, first: usize) -> Idx
     if id <= last {
         Idx::At(first + id)
     } else {
-        Idx::Refused(7)
+        Idx::Refused(refusals::CSR)
     }
 }

@@ -103,10 +103,10 @@ fn checked(ctx: Profile, shape: Shape) -> Shaped
         Shape::Sret => Shaped::Is(shape),
         Shape::Fence { rs1, rs2, .. } => {
             if 31 < rs1 {
-                return Shaped::Refused(6);
+                return Shaped::Refused(refusals::REGISTER);
             }
             if 31 < rs2 {
-                return Shaped::Refused(6);
+                return Shaped::Refused(refusals::REGISTER);
             }
             Shaped::Is(shape)
         }
@@ -118,16 +118,16 @@ fn checked(ctx: Profile, shape: Shape) -> Shaped
             ..
         } => {
             if 31 < rd {
-                return Shaped::Refused(6);
+                return Shaped::Refused(refusals::REGISTER);
             }
             if 31 < src {
-                return Shaped::Refused(6);
+                return Shaped::Refused(refusals::REGISTER);
             }
             if !csrs::is_available(ctx, csr) {
-                return Shaped::Refused(7);
+                return Shaped::Refused(refusals::CSR);
             }
             if system_decoder::is_barred(csr, system_decoder::always_writes(op), src) {
-                return Shaped::Refused(8);
+                return Shaped::Refused(refusals::READ_ONLY);
             }
             Shaped::Is(shape)
         }
