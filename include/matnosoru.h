@@ -1,8 +1,9 @@
 /*
  * matnosoru: a proved RISC-V decoder, encoder and trap log. Link libmatnosoru.a (tools/native matnosoru TARGET).
  *
- * Every function is total: it has an answer for all arguments, keeps no state, allocates nothing and calls nothing back. A
- * pointer may be any where its length is 0; else it must be good for that many bytes, and `out` must overlap no other argument.
+ * Every function is total: it has an answer for all arguments, keeps no state of its own, allocates nothing and calls nothing back.
+ * A pointer may be any where its length is 0, NULL too; else it must be good for that many bytes. A buffer that is written must
+ * overlap no other argument.
  *
  * A profile is what a hart has, in two words. `flags`, from bit 0 up: zicntr, zihpm, tee, s, h, sstc, v, crypto; bits that mean
  * nothing are ignored. `custom`: bit k makes the CSR address 0x7C0 + k available.
@@ -10,8 +11,28 @@
  * An instruction crosses as one 64-bit word, its log record's bytes with the lowest first and zeros above (see
  * MATNOSORU_KIND and the table below it).
  *
- * Where an answer may be a refusal, it is the refusal's number times 2^32 for one, and below 2^32 otherwise
+ * A call says no in one of two ways. The three readings answer an instruction word, and a refusal is a word of kind 9
+ * (MATNOSORU_READ_REFUSAL). Every other answer that may be a refusal is its number times 2^32 for one, and below 2^32 otherwise
  * (MATNOSORU_REFUSAL).
+ *
+ * This lists a whole log, line by line:
+ *
+ *     static void list(const uint8_t *log, size_t len, void (*put)(const uint8_t *line, size_t len)) {
+ *         uint8_t state[MATNOSORU_STATE_LENGTH], line[MATNOSORU_LONGEST_LINE];
+ *         size_t at = 0;
+ *         matnosoru_start(state, sizeof state);
+ *         put(line, matnosoru_header(line, sizeof line));
+ *         while (at < len) {
+ *             uint64_t answer = matnosoru_next_line(state, sizeof state, at, log + at, len - at, line, sizeof line);
+ *             if (MATNOSORU_REFUSAL(answer)) {
+ *                 put(line, matnosoru_bad_line(MATNOSORU_REFUSAL(answer), at, line, sizeof line));
+ *                 return;
+ *             }
+ *             put(line, MATNOSORU_LINE_PART(answer));
+ *             at += MATNOSORU_RECORD_PART(answer);
+ *         }
+ *         put(line, matnosoru_end_line(at, line, sizeof line));
+ *     }
  */
 #ifndef MATNOSORU_H
 #define MATNOSORU_H
@@ -19,12 +40,43 @@
 #include <stddef.h>
 #include <stdint.h>
 
+/* A length crosses as a 64-bit number. */
+#if defined(__cplusplus) && __cplusplus >= 201103L
+static_assert(sizeof(size_t) == 8, "matnosoru is for machines with 64-bit addresses");
+#elif defined(__STDC_VERSION__) && __STDC_VERSION__ >= 201112L
+_Static_assert(sizeof(size_t) == 8, "matnosoru is for machines with 64-bit addresses");
+#else
+typedef char matnosoru_is_for_machines_with_64_bit_addresses[sizeof(size_t) == 8 ? 1 : -1];
+#endif
+
 #ifdef __cplusplus
 extern "C" {
 #endif
 
-/* The refusal's number in an answer that may be one; 0 where it is none. */
+/* The number of this header. It is raised when an answer, a length or a function here changes. An archive fits where
+ * matnosoru_version() answers the same. */
+#define MATNOSORU_VERSION 1
+
+/* The most bytes that a record has. */
+#define MATNOSORU_LONGEST_RECORD 11
+/* The most bytes that a line of the listing has, its line feed included: a place of 20 digits, then " 09 refused 5". */
+#define MATNOSORU_LONGEST_LINE 34
+/* The length of a table: for each of the eight harts the flags in two bytes and the mask in eight, low byte first. */
+#define MATNOSORU_TABLE_LENGTH 80
+/* The length of a log's state: a table, then the current hart in one byte. */
+#define MATNOSORU_STATE_LENGTH 81
+/* What matnosoru_tables_differ answers where two tables make the same CSRs available. */
+#define MATNOSORU_SAME 32768
+
+/* The refusal's number in an answer of any function but the three readings; 0 where the answer is no refusal. */
 #define MATNOSORU_REFUSAL(answer) ((uint64_t)(answer) >> 32)
+
+/* The refusal's number in the answer of a reading; 0 where the answer is an instruction. (It uses its argument twice.) */
+#define MATNOSORU_READ_REFUSAL(word) (MATNOSORU_KIND(word) == 9 ? (uint64_t)(word) >> 16 & 0xFF : (uint64_t)0)
+
+/* The two lengths in an answer of matnosoru_line and matnosoru_next_line that is no refusal: the record's and the line's. */
+#define MATNOSORU_RECORD_PART(answer) ((uint64_t)(answer) & 0xFFFF)
+#define MATNOSORU_LINE_PART(answer) ((uint64_t)(answer) >> 16 & 0xFFFF)
 
 /*
  * The kind of an instruction word, its lowest byte, and what the bytes above it are:
@@ -57,6 +109,9 @@ enum matnosoru_refusal {
     MATNOSORU_HART = 15           /* the hart is above 7 */
 };
 
+/* The MATNOSORU_VERSION of the header that the archive fits. */
+uint64_t matnosoru_version(void);
+
 /* The SYSTEM reading of a raw word: its instruction word of kind 1 to 6, or the refusal 1 or 2 as a word of kind 9. */
 uint64_t matnosoru_read_system(uint64_t flags, uint64_t custom, uint64_t raw);
 
@@ -87,18 +142,44 @@ uint64_t matnosoru_write_refusal(uint64_t reading, uint64_t number, uint64_t raw
  * unchanged. */
 uint64_t matnosoru_write_profile(uint64_t hart, uint64_t flags, uint64_t custom, uint8_t *out, size_t out_len);
 
-/* Checks the first record of a log under the current profile: the record's length, or the refusal 11, 12 or 13. What follows the
- * record is not looked at. */
+/* Checks the first record of a log under one profile: the record's length, or the refusal 12 where the log is empty, then 11, 12,
+ * 13. What follows the record is not looked at. */
 uint64_t matnosoru_read_record(uint64_t flags, uint64_t custom, const uint8_t *log, size_t log_len);
 
-/* Writes the listing's line for the first record of `log`, which stands at place `at` of the whole log, to the start of `out`,
- * its line feed included: the record's length plus 2^16 times the line's length; or the record's refusal, 14 last, with `out`
- * unchanged. */
+/* Writes the listing's line for the first record of `log`, whose place in the whole log is `at`, to the start of `out`, its line
+ * feed included: the record's length plus 2^16 times the line's length; or the record's refusal, 14 last, with `out` unchanged. */
 uint64_t matnosoru_line(uint64_t flags, uint64_t custom, uint64_t at, const uint8_t *log, size_t log_len, uint8_t *out, size_t out_len);
 
-/* Compares two tables of eight profiles, each table 80 bytes: for each hart the flags in two bytes and the mask in eight, low
- * byte first. The first hart and then the lowest CSR address where availability differs, as hart * 4096 + address; 32768 where
- * there is none; the refusal 14 where a table is not 80 bytes. */
+/*
+ * A whole log is walked with a state of MATNOSORU_STATE_LENGTH bytes: each hart's profile, and which hart is current. Each record is
+ * read under the current hart's profile. A record of kind 0A sets a hart's profile and makes that hart current.
+ */
+
+/* Makes the state with which a log begins, all profiles empty and hart 0 current: 81; or the refusal 14 where `state_len` is not 81,
+ * with `state` unchanged. */
+uint64_t matnosoru_start(uint8_t *state, size_t state_len);
+
+/* Reads the first record of `log`: its length, and the state after it. Or the refusal, with `state` unchanged: 14 where `state_len` is
+ * not 81, 15 where the state's hart is above 7, then those of matnosoru_read_record. */
+uint64_t matnosoru_next(uint8_t *state, size_t state_len, const uint8_t *log, size_t log_len);
+
+/* The same, and the record's line of the listing as matnosoru_line writes it: the record's length plus 2^16 times the line's length.
+ * Or the refusal, with `state` and `out` unchanged: those of matnosoru_next, and last 14 where `out` is shorter than the line. */
+uint64_t matnosoru_next_line(uint8_t *state, size_t state_len, uint64_t at, const uint8_t *log, size_t log_len, uint8_t *out,
+                             size_t out_len);
+
+/* Writes the listing's first line to the start of `out`: the line's length, or the refusal 14, with `out` unchanged. */
+uint64_t matnosoru_header(uint8_t *out, size_t out_len);
+
+/* The last line of a log that is accepted throughout and has `at` bytes: the line's length, or the refusal 14. */
+uint64_t matnosoru_end_line(uint64_t at, uint8_t *out, size_t out_len);
+
+/* The last line of a log with a bad record, of its refusal's number and its place: the line's length, or the refusal 13 for a number
+ * that is not 1 to 255, then 14. */
+uint64_t matnosoru_bad_line(uint64_t number, uint64_t at, uint8_t *out, size_t out_len);
+
+/* Compares two tables of eight profiles: the first hart and then the lowest CSR address where availability differs, as
+ * hart * 4096 + address; MATNOSORU_SAME where they differ nowhere; the refusal 14 where a table is not MATNOSORU_TABLE_LENGTH bytes. */
 uint64_t matnosoru_tables_differ(const uint8_t *a, size_t a_len, const uint8_t *b, size_t b_len);
 
 /* A value of `bytes` bytes (1, 2, 4 or 8) with its sign copied upwards; any other width leaves the value. */
