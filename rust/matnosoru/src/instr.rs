@@ -5,7 +5,7 @@ use crate::{Csr, Register, Width};
 /// A RISC-V privileged instruction.
 ///
 /// Miralis's type has `InvalidCsrOp` and `Unknown` besides: these are no instructions but answers of the reading, here
-/// [`Refusal`](crate::Refusal)s.
+/// [`Refusal`](crate::Refusal)s. The other cases are Miralis's, and none is added.
 #[derive(Debug, PartialEq, Eq, Clone, Copy, Hash)]
 pub enum IllegalInst {
     /// Wait for an interrupt
@@ -180,6 +180,7 @@ fn two(imm: isize) -> [u8; 2] {
 
 impl IllegalInst {
     /// The instruction word.
+    #[must_use]
     pub fn to_word(self) -> u64 {
         use IllegalInst::*;
         match self {
@@ -200,6 +201,7 @@ impl IllegalInst {
 
     /// The instruction of an instruction word of kind 1 to 6.
     #[inline]
+    #[must_use]
     pub fn from_word(word: u64) -> Option<IllegalInst> {
         use IllegalInst::*;
         let [kind, code, b2, b3, b4, b5, ..] = word.to_le_bytes();
@@ -236,6 +238,7 @@ impl IllegalInst {
 
 impl LoadInstr {
     /// The instruction word.
+    #[must_use]
     pub fn to_word(self) -> u64 {
         let flags = self.is_compressed as u8 | (self.is_unsigned as u8) << 1;
         let [low, high] = two(self.imm);
@@ -244,6 +247,7 @@ impl LoadInstr {
 
     /// The load of an instruction word of kind 7.
     #[inline]
+    #[must_use]
     pub fn from_word(word: u64) -> Option<LoadInstr> {
         let [7, width, flags, rd, rs1, low, high, _] = word.to_le_bytes() else { return None };
         Some(LoadInstr {
@@ -259,6 +263,7 @@ impl LoadInstr {
 
 impl StoreInstr {
     /// The instruction word.
+    #[must_use]
     pub fn to_word(self) -> u64 {
         let [low, high] = two(self.imm);
         word([8, self.len.to_bytes() as u8, self.is_compressed as u8, self.rs1 as u8, self.rs2 as u8, low, high])
@@ -266,6 +271,7 @@ impl StoreInstr {
 
     /// The store of an instruction word of kind 8.
     #[inline]
+    #[must_use]
     pub fn from_word(word: u64) -> Option<StoreInstr> {
         let [8, width, flags, rs1, rs2, low, high, _] = word.to_le_bytes() else { return None };
         Some(StoreInstr {
@@ -283,6 +289,7 @@ impl Instr {
     ///
     /// What no word can hold crosses as something that the library refuses for the same reason: a register with no address, an
     /// immediate of a CSR form above 255, an immediate beyond 16 bits.
+    #[must_use]
     pub fn to_word(self) -> u64 {
         match self {
             Instr::Illegal(i) => i.to_word(),

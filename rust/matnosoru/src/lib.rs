@@ -3,13 +3,30 @@
 //! The work is done by the proved library `libmatnosoru.a`; this crate gives it types. What a call needs to know of a hart is a
 //! [`Profile`], and the readings and writings are its methods:
 //!
-//! ```no_run
+//! ```
 //! use matnosoru::{Csr, IllegalInst, Profile, Refusal, Register};
 //!
 //! let hart = Profile::default();
 //! let read = hart.decode_illegal_instruction(0xF14022F3);
 //! assert_eq!(read, Ok(IllegalInst::Csrrs { csr: Csr::Mhartid, rd: Register::X5, rs1: Register::X0 }));
 //! assert_eq!(hart.decode_illegal_instruction(0xF1401073), Err(Refusal::InvalidCsrOp));
+//! ```
+//!
+//! A trap log is walked by [`Log`], record by record, and listed by [`Listing`]:
+//!
+//! ```
+//! use matnosoru::{IllegalInst, Instr, Listing, Log, Record};
+//!
+//! let log = [1, 0x0A, 3, 0, 0, 0, 0, 0, 0, 0, 0, 0, 0xFF];
+//! let mut walk = Log::new(&log);
+//! assert_eq!(walk.next().unwrap()?.record, Record::Instr(Instr::Illegal(IllegalInst::Wfi)));
+//! assert!(matches!(walk.next().unwrap()?.record, Record::Profile { hart: 3, .. }));
+//! let bad = walk.next().unwrap().unwrap_err();
+//! assert_eq!((bad.refusal.number(), bad.at), (11, 12));
+//!
+//! let text: String = Listing::new(&log).map(|line| line.to_string()).collect();
+//! assert_eq!(text, "at kind answer\n0 01 10500073\n1 0A hart 3\nbad 11 at 12\n");
+//! # Ok::<(), matnosoru::Bad>(())
 //! ```
 //!
 //! Where the answer is no, it is a [`Refusal`]; nothing here panics, whatever it is given. The lints below hold the code to that:
@@ -23,12 +40,14 @@
 #![deny(unsafe_code)]
 #![deny(clippy::indexing_slicing, clippy::unwrap_used, clippy::expect_used, clippy::panic, clippy::unreachable, clippy::todo)]
 #![deny(clippy::arithmetic_side_effects)]
+#![warn(clippy::must_use_candidate)]
 
 // Addresses and raw words are `usize` as in Miralis, and cross as 64-bit numbers.
 const _: () = assert!(usize::BITS == 64, "matnosoru is for machines with 64-bit addresses");
 
 pub mod abi;
 mod instr;
+mod log;
 mod profile;
 mod record;
 mod refusal;
@@ -36,8 +55,18 @@ mod registers;
 mod utils;
 
 pub use instr::{IllegalInst, Instr, LoadInstr, StoreInstr};
+pub use log::{Bad, Entry, Listing, Log, State, Text};
 pub use profile::{Difference, Profile, first_difference};
 pub use record::{Line, Reading, Record};
 pub use refusal::Refusal;
 pub use registers::{Csr, Register, csr};
 pub use utils::{Width, calculate_addr, sign_extend};
+
+/// The version of the library that this crate is for: MATNOSORU_VERSION of include/matnosoru.h.
+pub const VERSION: u64 = 1;
+
+/// The version of the library that is linked. Where it is not [`VERSION`], archive and crate are of different releases.
+#[must_use]
+pub fn version() -> u64 {
+    abi::version()
+}

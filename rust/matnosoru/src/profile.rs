@@ -3,6 +3,9 @@
 use crate::{Csr, IllegalInst, Instr, LoadInstr, Refusal, StoreInstr, abi};
 
 /// What a hart has: the extension flags that Miralis keeps in `hw.extensions`, and the custom CSRs of its platform.
+///
+/// A later library may ask for a further flag, and the type then has a further field. A profile that is made by
+/// [`Profile::from_flags`], or from [`Profile::EMPTY`] by setting fields, then has that flag off.
 #[derive(Clone, Copy, Debug, Default, PartialEq, Eq, Hash)]
 pub struct Profile {
     /// Zicntr - Standard Extension for Base Counters and Timers
@@ -29,7 +32,7 @@ pub struct Profile {
 #[inline]
 fn read<T>(word: u64, from_word: impl FnOnce(u64) -> Option<T>) -> Result<T, Refusal> {
     // The library's contract leaves nothing between the two, so a word that is neither does not come up. It would be Other(0).
-    from_word(word).ok_or(Refusal::from_number((word >> 16) & 0xFF))
+    from_word(word).ok_or(Refusal::from_number(abi::read_refusal(word)))
 }
 
 impl Profile {
@@ -37,6 +40,7 @@ impl Profile {
     pub const EMPTY: Profile = Profile::from_flags(0, 0);
 
     /// The profile with these flags, from bit 0 up in the order of the fields, and this mask. Bits that mean nothing are ignored.
+    #[must_use]
     pub const fn from_flags(flags: u64, custom: u64) -> Profile {
         Profile {
             has_zicntr: flags & 1 != 0,
@@ -53,6 +57,7 @@ impl Profile {
 
     /// The flags, from bit 0 up in the order of the fields.
     #[inline]
+    #[must_use]
     pub const fn flags(&self) -> u64 {
         self.has_zicntr as u64
             | (self.has_zihpm_extension as u64) << 1
@@ -86,6 +91,7 @@ impl Profile {
 
     /// Decodes a CSR address, returns `None` if the CSR is not available.
     #[inline]
+    #[must_use]
     pub fn decode_csr(&self, csr: usize) -> Option<Csr> {
         match abi::csr(self.flags(), self.custom, csr as u64) {
             0 => None,
@@ -94,6 +100,7 @@ impl Profile {
     }
 
     /// How many CSRs are available.
+    #[must_use]
     pub fn csr_count(&self) -> usize {
         abi::csr_count(self.flags(), self.custom) as usize
     }
@@ -114,22 +121,33 @@ pub struct Difference {
 }
 
 /// The first hart, then the lowest CSR address, where two tables of profiles differ in what is available.
+#[must_use]
 pub fn first_difference(a: &[Profile; 8], b: &[Profile; 8]) -> Option<Difference> {
     match abi::tables_differ(&table(a), &table(b)) {
-        place @ 0..32768 => Some(Difference { hart: (place >> 12) as usize, address: (place & 0xFFF) as usize }),
-        // 32768 is "none", and both tables have their 80 bytes
+        place @ 0..abi::SAME => Some(Difference { hart: (place >> 12) as usize, address: (place & 0xFFF) as usize }),
+        // both tables have their length, so there is no refusal
         _ => None,
     }
 }
 
-/// A table as it crosses: for each hart the flags in two bytes and the mask in eight, low byte first.
-fn table(profiles: &[Profile; 8]) -> [u8; 80] {
-    let mut bytes = [0; 80];
-    for (entry, profile) in bytes.chunks_exact_mut(10).zip(profiles) {
+/// How many bytes of a table are one hart's.
+const ENTRY: usize = abi::TABLE_LENGTH / 8;
+
+/// A table as it crosses.
+fn table(profiles: &[Profile; 8]) -> [u8; abi::TABLE_LENGTH] {
+    let mut bytes = [0; abi::TABLE_LENGTH];
+    for (entry, profile) in bytes.chunks_exact_mut(ENTRY).zip(profiles) {
         let flags = profile.flags().to_le_bytes().into_iter().take(2);
         for (byte, value) in entry.iter_mut().zip(flags.chain(profile.custom.to_le_bytes())) {
             *byte = value;
         }
     }
     bytes
+}
+
+/// A hart's profile in a table as it crosses.
+pub(crate) fn in_table(table: &[u8; abi::TABLE_LENGTH], hart: usize) -> Option<Profile> {
+    let &[f0, f1, c0, c1, c2, c3, c4, c5, c6, c7] = table.chunks_exact(ENTRY).nth(hart)? else { return None };
+    let custom = u64::from_le_bytes([c0, c1, c2, c3, c4, c5, c6, c7]);
+    Some(Profile::from_flags(u16::from_le_bytes([f0, f1]) as u64, custom))
 }

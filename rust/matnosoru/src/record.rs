@@ -1,9 +1,10 @@
-//! The trap log: records as bytes and back, and the listing's lines.
+//! Records of the trap log, as bytes and back.
 
 use crate::{Instr, Profile, Refusal, abi};
 
-/// Which reading refused a word.
+/// Which reading refused a word. A later log may name one that is none of these.
 #[derive(Clone, Copy, Debug, PartialEq, Eq, Hash)]
+#[non_exhaustive]
 #[repr(u8)]
 pub enum Reading {
     /// [`Profile::decode_illegal_instruction`]
@@ -14,8 +15,9 @@ pub enum Reading {
     Store = 2,
 }
 
-/// A record of the trap log.
+/// A record of the trap log. A later log may have further kinds.
 #[derive(Clone, Copy, Debug, PartialEq, Eq, Hash)]
+#[non_exhaustive]
 pub enum Record {
     /// Kinds 01 to 08: a word that was read as this instruction
     Instr(Instr),
@@ -46,9 +48,27 @@ pub struct Line {
     pub text: usize,
 }
 
+impl Line {
+    /// The two lengths of an answer, or its refusal.
+    pub(crate) fn from_answer(answer: u64) -> Result<Line, Refusal> {
+        let lengths = abi::answer(answer)?;
+        Ok(Line { record: (lengths & 0xFFFF) as usize, text: (lengths >> 16) as usize })
+    }
+}
+
 impl Record {
     /// The most bytes that a record has.
     pub const LONGEST: usize = 11;
+
+    /// The first record of a log, where the library has accepted it with this length.
+    pub(crate) fn accepted(log: &[u8], length: usize) -> Result<Record, Refusal> {
+        let mut bytes = [0; 12];
+        for (byte, value) in bytes.iter_mut().zip(log.iter().take(length)) {
+            *byte = *value;
+        }
+        // The library accepts no record that has no such reading, so the refusal here does not come up.
+        Record::from_bytes(bytes).ok_or(Refusal::RecordField)
+    }
 
     /// The record in bytes that the library has accepted, padded with zeros.
     fn from_bytes(bytes: [u8; 12]) -> Option<Record> {
@@ -88,24 +108,19 @@ impl Profile {
         abi::answer(length).map(|n| n as usize)
     }
 
-    /// Reads the first record of a log, under the current hart's profile: the record and its length. What follows is not looked at.
+    /// Reads the first record of a log under this profile: the record and its length. What follows is not looked at. (A whole log is
+    /// walked by [`Log`](crate::Log).)
     ///
     /// Refusals: 12 for an empty log, 11, 12, 13.
     pub fn read_record(&self, log: &[u8]) -> Result<(Record, usize), Refusal> {
         let length = abi::answer(abi::read_record(self.flags(), self.custom, log))? as usize;
-        let mut bytes = [0; 12];
-        for (byte, value) in bytes.iter_mut().zip(log.iter().take(length)) {
-            *byte = *value;
-        }
-        // The library accepts no record that has no such reading, so the refusal here does not come up.
-        Record::from_bytes(bytes).map(|record| (record, length)).ok_or(Refusal::RecordField)
+        Record::accepted(log, length).map(|record| (record, length))
     }
 
-    /// Writes the listing's line for the first record of `log`, which stands at place `at` of the whole log, to the start of `out`.
+    /// Writes the listing's line for the first record of `log`, whose place in the whole log is `at`, to the start of `out`.
     ///
     /// Refusals: the record's, and last 14 for an `out` shorter than the line. `out` is then unchanged.
     pub fn line(&self, at: u64, log: &[u8], out: &mut [u8]) -> Result<Line, Refusal> {
-        let lengths = abi::answer(abi::line(self.flags(), self.custom, at, log, out))?;
-        Ok(Line { record: (lengths & 0xFFFF) as usize, text: (lengths >> 16) as usize })
+        Line::from_answer(abi::line(self.flags(), self.custom, at, log, out))
     }
 }

@@ -2,7 +2,7 @@
 
 use core::fmt;
 
-/// Why a call says no. Each has the number that stands in the log and in the library's answers.
+/// Why a call says no. Each has its number in the log and in the library's answers. A later library may have further ones.
 #[derive(Clone, Copy, Debug, PartialEq, Eq, Hash)]
 #[non_exhaustive]
 pub enum Refusal {
@@ -42,6 +42,7 @@ pub enum Refusal {
 
 impl Refusal {
     /// The refusal's number.
+    #[must_use]
     pub const fn number(self) -> u64 {
         match self {
             Refusal::Unknown => 1,
@@ -64,6 +65,7 @@ impl Refusal {
     }
 
     /// The refusal with this number.
+    #[must_use]
     pub const fn from_number(number: u64) -> Refusal {
         match number {
             1 => Refusal::Unknown,

@@ -74,6 +74,7 @@ pub enum Register {
 
 impl Register {
     /// Convert a `usize` to a register by masking high order bits.
+    #[must_use]
     pub const fn from(value: usize) -> Self {
         use Register::*;
         match value & 0b11111 {
@@ -144,6 +145,9 @@ macro_rules! csrs {
         /// A RISC-V Control and Status Register (CSR).
         ///
         /// A payload may be any number; [`Csr::idx`] refuses one that no register has.
+        ///
+        /// A later library may know further registers. A match that lists all of them, as the one in rust/miralis/decoder.rs does,
+        /// then stops compiling where it has to say what becomes of the new one.
         #[derive(Clone, Copy, Debug, PartialEq, Eq, Hash)]
         pub enum Csr {
             $($(#[$doc])* $name,)*
@@ -209,6 +213,7 @@ macro_rules! csrs {
             }
 
             /// The register whose address this is, available or not. The way back from [`Csr::idx`].
+            #[must_use]
             pub const fn at(address: usize) -> Option<Csr> {
                 Some(match address {
                     $(csr::$address => Csr::$name,)*

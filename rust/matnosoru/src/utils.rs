@@ -22,16 +22,19 @@ pub enum Width {
 
 impl Width {
     /// The width in bits.
+    #[must_use]
     pub const fn to_bits(self) -> usize {
         self as usize
     }
 
     /// The width in bytes.
+    #[must_use]
     pub const fn to_bytes(self) -> usize {
         self.to_bits() / 8
     }
 
     /// The width of so many bits, if there is one. (Miralis's `From<usize>` panics where there is none.)
+    #[must_use]
     pub const fn from_bits(bits: usize) -> Option<Width> {
         match bits {
             8 => Some(Width::Byte),
@@ -43,6 +46,7 @@ impl Width {
     }
 
     /// The width of so many bytes, if there is one.
+    #[must_use]
     pub const fn from_bytes(bytes: usize) -> Option<Width> {
         match bytes {
             1 => Some(Width::Byte),
@@ -57,12 +61,14 @@ impl Width {
 /// Compute the address from a base address plus an immediate: the sum modulo 2^64. (Miralis's panics in a debug build where the sum
 /// passes an end, and for the least immediate.)
 #[inline]
+#[must_use]
 pub fn calculate_addr(self_value: usize, imm: isize) -> usize {
     abi::calculate_addr(self_value as u64, imm as u64) as usize
 }
 
 /// Performs a sign extension assuming the provided width of the value.
 #[inline]
+#[must_use]
 pub fn sign_extend(value: usize, width: Width) -> usize {
     abi::sign_extend(value as u64, width.to_bytes() as u64) as usize
 }

@@ -1,8 +1,8 @@
-//! The trap log: document 01's 35 bytes, records there and back, and comparing tables.
+//! The trap log: document 01's 35 bytes, walks and listings, records there and back, and comparing tables.
 
 use matnosoru::{
-    Csr, Difference, IllegalInst, Instr, Line, LoadInstr, Profile, Reading, Record, Refusal, Register::*, StoreInstr, Width, abi,
-    first_difference,
+    Bad, Csr, Difference, IllegalInst, Instr, Line, Listing, LoadInstr, Log, Profile, Reading, Record, Refusal, Register::*, State,
+    StoreInstr, Text, Width, abi, first_difference,
 };
 
 const LOG: [u8; 35] = [
@@ -10,28 +10,9 @@ const LOG: [u8; 35] = [
     0x73, 0x10, 0x40, 0xF1, 0, 0, 0, 0,
 ];
 
-/// The program's listing, by its lines: a profile record sets its hart's profile and makes that hart current.
+/// A log's listing as one text.
 fn listing(log: &[u8]) -> String {
-    let mut table = [Profile::EMPTY; 8];
-    let mut current = 0;
-    let mut text = String::from("at kind answer\n");
-    let mut at = 0;
-    while at < log.len() {
-        let mut out = [0; 64];
-        match table[current].line(at as u64, &log[at..], &mut out) {
-            Ok(Line { record, text: length }) => {
-                text.push_str(std::str::from_utf8(&out[..length]).unwrap());
-                assert!(out[length..].iter().all(|b| *b == 0), "bytes after the line are kept");
-                if let Ok((Record::Profile { hart, profile }, _)) = table[current].read_record(&log[at..]) {
-                    table[hart] = profile;
-                    current = hart;
-                }
-                at += record;
-            }
-            Err(refusal) => return format!("{text}bad {} at {at}\n", refusal.number()),
-        }
-    }
-    format!("{text}end {at}\n")
+    Listing::new(log).map(|line| line.to_string()).collect()
 }
 
 #[test]
@@ -46,6 +27,135 @@ fn thirty_five() {
     assert_eq!(listing(&[1, 0]), "at kind answer\n0 01 10500073\nbad 11 at 1\n");
     // a compressed word has four digits
     assert_eq!(listing(&[7, 4, 1, 15, 15, 124, 0]), "at kind answer\n0 07 5FFC\nend 7\n");
+}
+
+/// The records of document 01's bytes, with their places, and what they leave behind.
+#[test]
+fn walk() {
+    let mut log = Log::new(&LOG);
+    let entries: Vec<_> = log.by_ref().map(Result::unwrap).collect();
+    assert_eq!(entries.iter().map(|e| e.at).collect::<Vec<_>>(), [0, 11, 17, 24]);
+    let csrrs = IllegalInst::Csrrs { csr: Csr::Mhartid, rd: X5, rs1: X0 };
+    let lw = LoadInstr { rd: X5, rs1: X10, imm: -2048, len: Width::Byte4, is_compressed: false, is_unsigned: false };
+    assert_eq!(
+        entries.iter().map(|e| e.record).collect::<Vec<_>>(),
+        [
+            Record::Profile { hart: 0, profile: Profile::EMPTY },
+            Record::Instr(csrrs.into()),
+            Record::Instr(lw.into()),
+            Record::Refused { reading: Reading::System, refusal: Refusal::InvalidCsrOp, raw: 0xF1401073 },
+        ]
+    );
+    assert_eq!(entries[3].line.as_str(), "24 09 refused 2\n");
+    assert_eq!((log.at(), log.rest(), log.state()), (35, &[][..], State::new()));
+    assert!(log.next().is_none());
+}
+
+/// A profile record counts for its hart alone, from there on, and the walk says what is current.
+#[test]
+fn harts() {
+    let set = |hart, flags| {
+        let mut record = vec![0; Record::LONGEST];
+        let profile = Profile::from_flags(flags, 1 << 63);
+        assert_eq!(Profile::EMPTY.write_record(&Record::Profile { hart, profile }, &mut record), Ok(11));
+        record
+    };
+    // cycle needs zicntr
+    let cycle = [5, 2, 0x00, 0x0C, 5, 0];
+    let text = [&set(7, 1)[..], &cycle, &set(0, 2), &cycle].concat();
+    let mut log = Log::new(&text);
+    assert_eq!((log.state().hart(), log.state().profile(7)), (0, Some(Profile::EMPTY)));
+    assert!(log.next().unwrap().is_ok());
+    assert_eq!((log.state().hart(), log.state().profile(7)), (7, Some(Profile::from_flags(1, 1 << 63))));
+    assert!(log.next().unwrap().is_ok());
+    assert!(log.next().unwrap().is_ok());
+    let bad = log.next().unwrap().unwrap_err();
+    assert_eq!((bad.at, bad.refusal), (28, Refusal::RecordField));
+    assert_eq!(bad.to_string(), "bad record at 28: 13 (a field that no writer would write)");
+    assert_eq!(bad.line().as_str(), "bad 13 at 28\n");
+    // the bad record changes nothing and ends the walk
+    assert!(log.next().is_none());
+    assert_eq!((log.at(), log.rest()), (28, &cycle[..]));
+    let state = log.state();
+    assert_eq!(state.hart(), 0);
+    assert_eq!([7, 0, 1, 8].map(|hart| state.profile(hart).map(|p| p.flags())), [Some(1), Some(2), Some(0), None]);
+}
+
+/// A log that comes in two parts, cut anywhere, is the whole log.
+#[test]
+fn parts() {
+    let whole: Vec<_> = Log::new(&LOG).collect();
+    for cut in 0..=LOG.len() {
+        let mut first = Log::new(&LOG[..cut]);
+        let mut entries: Vec<Result<_, Bad>> = first.by_ref().filter(Result::is_ok).collect();
+        let second = [first.rest(), &LOG[cut..]].concat();
+        entries.extend(Log::resumed(first.state(), first.at(), &second));
+        assert_eq!(entries, whole, "cut at {cut}");
+    }
+}
+
+/// The lines that need no record, at their longest.
+#[test]
+fn longest() {
+    assert_eq!(Text::header().as_bytes(), b"at kind answer\n");
+    assert_eq!(Text::end(0).as_str(), "end 0\n");
+    assert_eq!(Text::end(u64::MAX).as_str(), "end 18446744073709551615\n");
+    assert_eq!(Text::bad(Refusal::Other(255), u64::MAX).unwrap().as_str(), "bad 255 at 18446744073709551615\n");
+    assert_eq!(Text::bad(Refusal::Other(0), 0), Err(Refusal::RecordField));
+    assert_eq!(Text::bad(Refusal::Other(256), 0), Err(Refusal::RecordField));
+    let mut refused = Log::resumed(State::new(), u64::MAX, &LOG[24..]);
+    let line = refused.next().unwrap().unwrap().line;
+    assert_eq!(line.as_str(), "18446744073709551615 09 refused 2\n");
+    assert_eq!(line.as_bytes().len(), Text::LONGEST);
+}
+
+/// The calls on a state, with the refusals that the types leave out.
+#[test]
+fn states() {
+    let mut start = [0xEE; abi::STATE_LENGTH];
+    assert_eq!(abi::start(&mut start), 81);
+    assert_eq!(start, [0; abi::STATE_LENGTH]);
+    let refused = |number: u64| number << 32;
+    for length in [0, 80, 82] {
+        let (mut state, mut out) = (vec![0xEE; length], [0xEE; 64]);
+        assert_eq!(abi::start(&mut state), refused(14));
+        assert_eq!(abi::next(&mut state, &LOG), refused(14));
+        assert_eq!(abi::next(&mut state, &[]), refused(14), "14 for the state comes first");
+        assert_eq!(abi::next_line(&mut state, 0, &LOG, &mut out), refused(14));
+        assert!(state.iter().chain(&out).all(|b| *b == 0xEE), "a refusal leaves the state and the buffer");
+    }
+    let mut nowhere = start;
+    nowhere[80] = 8;
+    assert_eq!(abi::next(&mut nowhere, &[]), refused(15), "15 comes before 12");
+    assert_eq!(abi::next_line(&mut nowhere, 0, &LOG, &mut []), refused(15));
+    for (log, number) in [(&[][..], 12), (&[0], 11), (&[0x0A, 8], 12), (&[0x0A; 11], 13)] {
+        let (mut state, mut out) = (start, [0xEE; 64]);
+        assert_eq!(abi::next(&mut state, log), refused(number), "{log:?}");
+        assert_eq!(abi::next_line(&mut state, 0, log, &mut out), refused(number), "{log:?}");
+        assert_eq!(abi::next_line(&mut state, 0, log, &mut []), refused(number), "14 for the line comes last");
+        assert_eq!((state, out), (start, [0xEE; 64]));
+    }
+    // "0 0A hart 3\n" is twelve bytes
+    let log = [0x0A, 3, 0xFF, 1, 2, 3, 4, 5, 6, 7, 8];
+    let (mut state, mut out) = (start, [0xEE; 12]);
+    assert_eq!(abi::next_line(&mut state, 0, &log, &mut out[..11]), refused(14));
+    assert_eq!((state, out), (start, [0xEE; 12]));
+    assert_eq!(abi::next_line(&mut state, 0, &log, &mut out), 11 + (12 << 16));
+    assert_eq!(&out, b"0 0A hart 3\n");
+    let mut after = start;
+    after[30] = 0xFF;
+    after[32..40].copy_from_slice(&log[3..]);
+    after[80] = 3;
+    assert_eq!(state, after);
+    assert_eq!(abi::next(&mut start, &log), 11);
+    assert_eq!(start, after);
+    let mut state = State::default();
+    assert_eq!(state.next(&[2, 0xFF]), Ok((Record::Instr(IllegalInst::Mret.into()), 1)));
+    assert_eq!(state.next_line(5, &[3], &mut [0; Text::LONGEST]), Ok(Line { record: 1, text: 14 }));
+    for short in [&mut [][..], &mut [0xEE; 5]] {
+        assert_eq!([abi::header(short), abi::end_line(10, short), abi::bad_line(1, 1, short)], [refused(14); 3]);
+        assert!(short.iter().all(|b| *b == 0xEE));
+    }
 }
 
 #[test]
@@ -129,5 +239,5 @@ fn tables() {
     assert_eq!(first_difference(&b, &a), Some(Difference { hart: 0, address: 8 }));
     assert_eq!(abi::answer(abi::tables_differ(&[0; 79], &[0; 80])), Err(Refusal::OutputShort));
     assert_eq!(abi::answer(abi::tables_differ(&[0; 80], &[])), Err(Refusal::OutputShort));
-    assert_eq!(abi::tables_differ(&[0; 80], &[0; 80]), 32768);
+    assert_eq!(abi::tables_differ(&[0; 80], &[0; 80]), abi::SAME);
 }
