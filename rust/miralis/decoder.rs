@@ -1,16 +1,30 @@
 //! RISC-V instruction decoder
 //!
-//! This file stands in for Miralis's src/decoder.rs, over the proved library: put it in that file's place and add the crate
-//! `matnosoru` to the dependencies. The types and the functions are those of the original, so nothing else in the monitor changes.
+//! This file replaces Miralis's src/decoder.rs by the proved library: put it in that file's place and add the crate `matnosoru` to the
+//! dependencies. The types and the functions are those of the original, so the monitor builds with no other change.
+//!
+//! One other change is needed before a guest may run: the two calls in src/virt/memory.rs. The guest chooses the word that
+//! `emulate_misaligned_read` and `emulate_misaligned_write` decode, and it may choose one that is no load or store. `decode_load` and
+//! `decode_store` have no answer for such a word. The original panics or guesses; this file always panics. `try_decode_load` and
+//! `try_decode_store` answer the refusal and never panic. Both functions of src/virt/memory.rs can already fail, and their callers
+//! then hand the trap on to the guest (`emulate_payload_trap`):
+//!
+//! ```text
+//! let Ok(LoadInstr { rd, rs1, imm, len, is_compressed, .. }) = mctx.try_decode_load(raw_instruction) else {
+//!     return Err(());
+//! };
+//! ```
+//!
+//! and for a store alike. The `assert!` on the width that follows there panics at a load or store of one byte. No such access is
+//! misaligned, but the word is read after the trap, and another hart may have changed it; so the `assert!` should return `Err(())` too.
+//! Any other call on a word of the guest's should move to the same two names.
 //!
 //! Where a word is a SYSTEM instruction, a load or a store as document 01 has them, the answers are the original's. They differ:
 //!
 //! - `decode_load` and `decode_store` of a word that is none. The original has `todo!` for low two bits 10, `unreachable!` for 01, for
 //!   the compressed words of other instructions and for the reserved store widths; it reads other opcodes (such as flw, lr.w, or a
 //!   store in `decode_load`) as if they were loads or stores, and the reserved load width as 64 bits unsigned. The library refuses
-//!   all of these. Since the answer has no place for a refusal, this file panics there, as the original does at its `todo!`, and says
-//!   the word and the refusal's number. A monitor that would rather hand the trap on calls `try_decode_load` and `try_decode_store`,
-//!   which answer the refusal and never panic.
+//!   all of these, and this file panics with the word and the refusal's number.
 //! - Nothing is logged of an unknown CSR.
 
 use matnosoru::{Profile, Refusal};
@@ -104,7 +118,7 @@ pub struct StoreInstr {
 impl MiralisContext {
     /// Decodes a raw read RISC-V instruction.
     ///
-    /// Panics where the word is no such load (see the top of this file).
+    /// Panics where the word is no such load. For a word that a guest chooses, call `try_decode_load` (see the top of this file).
     pub fn decode_load(&self, raw: usize) -> LoadInstr {
         match self.try_decode_load(raw) {
             Ok(load) => load,
@@ -114,7 +128,7 @@ impl MiralisContext {
 
     /// Decodes a raw write RISC-V instruction.
     ///
-    /// Panics where the word is no such store (see the top of this file).
+    /// Panics where the word is no such store. For a word that a guest chooses, call `try_decode_store` (see the top of this file).
     pub fn decode_store(&self, raw: usize) -> StoreInstr {
         match self.try_decode_store(raw) {
             Ok(store) => store,
