@@ -1,12 +1,15 @@
 /*
- * Calls every exported function of the library on words, records and profiles that are the same in every run, and writes all answers
- * to standard output: ROUNDS blocks of BLOCK bytes. tools/riscv runs it on two machines and compares what they wrote.
+ * Calls every exported function of the library, first on arguments whose answers are written down here, then on words, records and
+ * profiles that are the same in every run. The exit status is 3 where an answer is not the one written down. All other answers go to
+ * standard output: ROUNDS blocks of BLOCK bytes. tools/riscv runs it on several machines and compares what they wrote.
  *
- * It stands alone, with no C library, so that it can be built for a machine whose C library is not at hand.
+ * It needs no C library, so that it can be built for a machine that has none here.
  */
 #include "matnosoru.h"
+/* the function `list` in the comment at the top of matnosoru.h */
+#include "example.h"
 
-enum { ROUNDS = 300000, BLOCK = 320, ROOM = 64 };
+enum { ROUNDS = 300000, BLOCK = 328, ROOM = 64 };
 
 #if defined(__x86_64__)
 enum { WRITE = 1, EXIT = 60 };
@@ -81,6 +84,142 @@ static void flush(void) {
     at = 0;
 }
 
+/* ---------------------------------------------- answers that are written down ---------------------------------------------- */
+
+static void hex(uint8_t *to, uint64_t value) {
+    for (int k = 0; k < 16; k++) to[k] = (uint8_t)"0123456789ABCDEF"[value >> (60 - 4 * k) & 15];
+}
+
+/* Stops where an answer is not the wanted one, and says in which line of this file. */
+static void hold(unsigned line, uint64_t answer, uint64_t wanted) {
+    uint8_t text[] = "riscv.c, line 0000: answer ................, wanted ................\n";
+    if (answer == wanted) return;
+    for (int k = 18; k > 14; k--, line /= 10) text[k - 1] = (uint8_t)('0' + line % 10);
+    hex(text + 27, answer);
+    hex(text + 52, wanted);
+    call(WRITE, 2, (long)text, sizeof text - 1);
+    call(EXIT, 3, 0, 0);
+}
+#define HOLD(answer, wanted) hold(__LINE__, answer, wanted)
+#define REFUSED(number) ((uint64_t)(number) << 32)
+
+/* Document 01's words at the edges and its further ones, under the empty profile: the reading, the word, and the instruction word. */
+static const struct {
+    uint64_t reading, raw, answer;
+} WORDS[] = {
+    {0, 0xF14022F3, 0x00050F140205}, /* set, mhartid, rd 5, rs1 0 */
+    {0, 0xF1401073, 0x020009},       /* 2: read-only written */
+    {0, 0xF140A2F3, 0x020009},
+    {0, 0x3A031073, 0x060003A00105}, /* write, pmpcfg 0, rs1 6 */
+    {0, 0x3A131073, 0x020009},
+    {0, 0x3F031073, 0x020009},
+    {0, 0x3EF31073, 0x060003EF0105}, /* write, pmpaddr 63 */
+    {0, 0x12B50073, 0x0B0A0004},     /* sfence.vma 10, 11 */
+    {0, 0x12B500F3, 0x010009},
+    {0, 0x110500073, 0x010009},
+    {0, 0x1F14022F3, 0x00050F140205},
+    {1, 0x80052283, 0xF8000A05000407}, /* load 32, rd 5, base 10, -2048 */
+    {1, 0x80057283, 0x040109},
+    {2, 0xFEB13C23, 0xFFF80B02000808}, /* store 64, rs2 11, base 2, -8 */
+    {1, 0x5FFC, 0x007C0F0F010407},     /* load 32, rd 15, base 15, 124 */
+    {1, 0x7D64, 0x00F80A09010807},     /* load 64, rd 9, base 10, 248 */
+    {1, 0x2000, 0x030109},
+    {1, 0, 0x030109},
+};
+
+static uint64_t reading(uint64_t which, uint64_t flags, uint64_t custom, uint64_t raw) {
+    if (which == 0) return matnosoru_read_system(flags, custom, raw);
+    return which == 1 ? matnosoru_read_load(flags, custom, raw) : matnosoru_read_store(flags, custom, raw);
+}
+
+static void hold_words(void) {
+    for (size_t k = 0; k < sizeof WORDS / sizeof WORDS[0]; k++) {
+        uint64_t answer = reading(WORDS[k].reading, 0, 0, WORDS[k].raw);
+        HOLD(answer, WORDS[k].answer);
+        HOLD(MATNOSORU_READ_REFUSAL(answer), (answer & 0xFF) == 9 ? answer >> 16 : 0);
+        if (MATNOSORU_KIND(answer) != 9) HOLD(matnosoru_write(0, 0, answer), WORDS[k].raw & 0xFFFFFFFF);
+    }
+}
+
+/* Document 01's 35 bytes and their lines. */
+static const uint8_t LOG[35] = {0x0A, 0, 0, 0, 0, 0, 0, 0, 0, 0, 0, 0x05, 0x02, 0x14, 0x0F, 0x05, 0x00, 0x07,
+                                0x04, 0x00, 0x05, 0x0A, 0x00, 0xF8, 0x09, 0x00, 0x02, 0x73, 0x10, 0x40, 0xF1, 0, 0, 0, 0};
+static const char LISTING[] = "at kind answer\n0 0A hart 0\n11 05 F14022F3\n17 07 80052283\n24 09 refused 2\nend 35\n";
+static const char SPOILT[] = "at kind answer\n0 0A hart 0\n11 05 F14022F3\nbad 13 at 17\n";
+static const char NOTHING[] = "at kind answer\nend 0\n";
+
+static void hold_listing(const uint8_t *log, size_t len, const char *wanted, size_t wanted_len) {
+    list(log, len, put_bytes);
+    HOLD(at, wanted_len);
+    HOLD((uint64_t)memcmp(out, wanted, wanted_len), 0);
+    at = 0;
+}
+
+static void hold_log(void) {
+    uint8_t spoilt[sizeof LOG], state[MATNOSORU_STATE_LENGTH], other[MATNOSORU_STATE_LENGTH], record[MATNOSORU_LONGEST_RECORD];
+    hold_listing(LOG, sizeof LOG, LISTING, sizeof LISTING - 1);
+    hold_listing(NULL, 0, NOTHING, sizeof NOTHING - 1);
+    memcpy(spoilt, LOG, sizeof LOG);
+    spoilt[18] = 3; /* a width that none has */
+    hold_listing(spoilt, sizeof LOG, SPOILT, sizeof SPOILT - 1);
+    /* the four records, one by one, and what writes them */
+    HOLD(matnosoru_write_profile(0, 0, 0, record, sizeof record), 11);
+    HOLD((uint64_t)memcmp(record, LOG, 11), 0);
+    HOLD(matnosoru_write_instruction(0, 0, WORDS[0].answer, record, sizeof record), 6);
+    HOLD((uint64_t)memcmp(record, LOG + 11, 6), 0);
+    HOLD(matnosoru_write_refusal(0, 2, 0xF1401073, record, sizeof record), 11);
+    HOLD((uint64_t)memcmp(record, LOG + 24, 11), 0);
+    HOLD(matnosoru_read_record(0, 0, LOG + 17, 18), 7);
+    HOLD(matnosoru_start(state, sizeof state), 81);
+    memset(other, 0, sizeof other);
+    HOLD((uint64_t)memcmp(state, other, sizeof state), 0);
+    /* hart 5 gets zicntr and custom CSR 0x7C1, and is current */
+    HOLD(matnosoru_write_profile(5, 1, 2, record, sizeof record), 11);
+    HOLD(matnosoru_next(state, sizeof state, record, sizeof record), 11);
+    other[50] = 1, other[52] = 2, other[80] = 5;
+    HOLD((uint64_t)memcmp(state, other, sizeof state), 0);
+    HOLD(matnosoru_tables_differ(state, 80, LOG + 1, 0), REFUSED(14));
+    memset(other, 0, sizeof other);
+    HOLD(matnosoru_tables_differ(state, 80, other, 80), 5 * 4096 + 0x7C1);
+    HOLD(matnosoru_tables_differ(other, 80, other, 80), MATNOSORU_SAME);
+    other[80] = 8;
+    HOLD(matnosoru_next(other, sizeof other, LOG, sizeof LOG), REFUSED(15));
+}
+
+/* The functions of numbers, and each function that takes a buffer, with none. */
+static void hold_rest(void) {
+    uint8_t state[MATNOSORU_STATE_LENGTH], wfi = 1;
+    HOLD(matnosoru_version(), MATNOSORU_VERSION);
+    HOLD(matnosoru_csr_count(0, 0), 90);
+    HOLD(matnosoru_csr_count(0xFF, ~(uint64_t)0), 266);
+    HOLD(matnosoru_csr(0, 2, 0x7C1), 1);
+    HOLD(matnosoru_csr(0, 2, 0x7C0), 0);
+    HOLD(matnosoru_sign_extend(0x80, 1), 0xFFFFFFFFFFFFFF80);
+    HOLD(matnosoru_sign_extend(0x80, 2), 0x80);
+    HOLD(matnosoru_calculate_addr(8, ~(uint64_t)15), 0xFFFFFFFFFFFFFFF8);
+    HOLD(matnosoru_write_instruction(0, 0, 1, NULL, 0), REFUSED(14));
+    HOLD(matnosoru_write_refusal(0, 1, 0, NULL, 0), REFUSED(14));
+    HOLD(matnosoru_write_profile(0, 0, 0, NULL, 0), REFUSED(14));
+    HOLD(matnosoru_read_record(0, 0, NULL, 0), REFUSED(12));
+    HOLD(matnosoru_line(0, 0, 0, NULL, 0, NULL, 0), REFUSED(12));
+    HOLD(matnosoru_line(0, 0, 0, &wfi, 1, NULL, 0), REFUSED(14));
+    HOLD(matnosoru_start(NULL, 0), REFUSED(14));
+    HOLD(matnosoru_start(state, sizeof state), 81);
+    HOLD(matnosoru_next(NULL, 0, NULL, 0), REFUSED(14));
+    HOLD(matnosoru_next(state, sizeof state, NULL, 0), REFUSED(12));
+    HOLD(matnosoru_next_line(NULL, 0, 0, NULL, 0, NULL, 0), REFUSED(14));
+    HOLD(matnosoru_next_line(state, sizeof state, 0, NULL, 0, NULL, 0), REFUSED(12));
+    HOLD(matnosoru_next_line(state, sizeof state, 0, &wfi, 1, NULL, 0), REFUSED(14));
+    HOLD(matnosoru_header(NULL, 0), REFUSED(14));
+    HOLD(matnosoru_end_line(0, NULL, 0), REFUSED(14));
+    HOLD(matnosoru_bad_line(1, 0, NULL, 0), REFUSED(14));
+    HOLD(matnosoru_bad_line(0, 0, NULL, 0), REFUSED(13));
+    HOLD(matnosoru_bad_line(256, 0, NULL, 0), REFUSED(13));
+    HOLD(matnosoru_tables_differ(NULL, 0, NULL, 0), REFUSED(14));
+}
+
+/* ------------------------------------------------ answers that are compared ------------------------------------------------ */
+
 /* A random word, or one that is a few bits from an instruction. */
 static uint64_t raw_word(void) {
     static const uint64_t seeds[12][2] = {
@@ -103,43 +242,75 @@ static void record(uint8_t *bytes, uint64_t word) {
     if (b % 16 == 1) bytes[0] = (uint8_t)(b >> 16) % 12;
 }
 
+/* The bytes of a buffer as one number. */
+static uint64_t hash(const uint8_t *bytes, size_t n) {
+    uint64_t h = 0xCBF29CE484222325;
+    for (size_t k = 0; k < n; k++) h = (h ^ bytes[k]) * 0x100000001B3;
+    return h;
+}
+
+/* The calls on a state, and the lines that need no record. */
+static void walk(uint64_t any, uint64_t bent, const uint8_t *bytes) {
+    uint8_t state[MATNOSORU_STATE_LENGTH], room[ROOM];
+    size_t state_len = sizeof state - (bent >> 56 == 0);
+    for (int k = 0; k < 80; k++) state[k] = (uint8_t)(any >> (k & 7) * 8) ^ (uint8_t)k;
+    state[80] = (uint8_t)(bent % 9);
+    memset(room, 0xEE, ROOM);
+    put(matnosoru_next_line(state, state_len, any >> (bent & 63), bytes, 16 - (any >> 60), room, any % 8 ? ROOM : (any >> 8) % ROOM));
+    put(hash(state, sizeof state));
+    put(hash(room, ROOM));
+    put(matnosoru_next(state, state_len, bytes, any >> 8 & 15));
+    put(hash(state, sizeof state));
+    put(matnosoru_header(room, any % 32));
+    put(matnosoru_end_line(any >> (bent & 63), room + 16, bent % 40));
+    put(matnosoru_bad_line(bent >> 40 & 0x1FF, bent, room + 24, any % 40));
+    put(hash(room, ROOM));
+}
+
+static void round_of(int round) {
+    uint64_t flags = next() % 256, custom = next(), raw = raw_word(), any = next(), bent = next(), read[3];
+    uint8_t bytes[16], room[ROOM], tables[2][80];
+    for (uint64_t k = 0; k < 3; k++) {
+        put(read[k] = reading(k, flags, custom, raw));
+        put(matnosoru_write(flags, custom, read[k]));
+    }
+    uint64_t instruction = read[any % 3] ^ (bent % 4 == 0 ? (uint64_t)1 << (bent >> 8 & 63) : 0);
+    put(matnosoru_write(flags, custom, instruction));
+    put(matnosoru_csr(flags, custom, any % 4096));
+    put(matnosoru_csr(flags, custom, bent));
+    put(matnosoru_csr_count(flags, custom));
+    put(matnosoru_sign_extend(any, (uint64_t)1 << (bent % 5)));
+    put(matnosoru_calculate_addr(any, (uint64_t)((int64_t)bent >> (any & 63))));
+    memset(room, 0xEE, ROOM);
+    put(matnosoru_write_instruction(flags, custom, instruction, room, (bent >> 16) % 16));
+    put_bytes(room, 16);
+    memset(room, 0xEE, ROOM);
+    put(matnosoru_write_refusal(any % 4, bent % 7, raw, room, (bent >> 16) % 16));
+    put_bytes(room, 16);
+    memset(room, 0xEE, ROOM);
+    put(matnosoru_write_profile(any % 9, flags, custom, room, (bent >> 16) % 16));
+    put_bytes(room, 16);
+    record(bytes, instruction);
+    put(matnosoru_read_record(flags, custom, bytes, any >> 8 & 15));
+    memset(room, 0xEE, ROOM);
+    put(matnosoru_line(flags, custom, any >> (bent & 63), bytes, 16 - (any >> 60), room, any % 8 ? ROOM : (any >> 8) % ROOM));
+    put_bytes(room, ROOM);
+    /* one record in eight sets a profile, one of those a hart's above 7 */
+    if ((bent >> 32 & 7) == 0) bytes[0] = 0x0A, bytes[1] = (uint8_t)(any % 9);
+    walk(any, bent, bytes);
+    /* two tables that are the same but for one bit */
+    for (int k = 0; k < 80; k++) tables[0][k] = tables[1][k] = (uint8_t)(custom >> (k & 7) * 8);
+    tables[1][any % 80] ^= (uint8_t)(1 << (any >> 8 & 7));
+    put(round % 64 ? 0 : matnosoru_tables_differ(tables[0], 80, tables[1], 80 - (any >> 63)));
+}
+
 void begin(void) {
+    hold_words();
+    hold_log();
+    hold_rest();
     for (int round = 0; round < ROUNDS; round++) {
-        size_t start = at;
-        uint64_t flags = next() % 256, custom = next(), raw = raw_word(), any = next(), bent = next();
-        uint64_t read[3] = {matnosoru_read_system(flags, custom, raw), matnosoru_read_load(flags, custom, raw), matnosoru_read_store(flags, custom, raw)};
-        uint8_t bytes[16], room[ROOM], tables[2][80];
-        for (int k = 0; k < 3; k++) {
-            put(read[k]);
-            put(matnosoru_write(flags, custom, read[k]));
-        }
-        uint64_t instruction = read[any % 3] ^ (bent % 4 == 0 ? (uint64_t)1 << (bent >> 8 & 63) : 0);
-        put(matnosoru_write(flags, custom, instruction));
-        put(matnosoru_csr(flags, custom, any % 4096));
-        put(matnosoru_csr(flags, custom, bent));
-        put(matnosoru_csr_count(flags, custom));
-        put(matnosoru_sign_extend(any, (uint64_t)1 << (bent % 5)));
-        put(matnosoru_calculate_addr(any, (uint64_t)((int64_t)bent >> (any & 63))));
-        memset(room, 0xEE, ROOM);
-        put(matnosoru_write_instruction(flags, custom, instruction, room, (bent >> 16) % 16));
-        put_bytes(room, 16);
-        memset(room, 0xEE, ROOM);
-        put(matnosoru_write_refusal(any % 4, bent % 7, raw, room, (bent >> 16) % 16));
-        put_bytes(room, 16);
-        memset(room, 0xEE, ROOM);
-        put(matnosoru_write_profile(any % 9, flags, custom, room, (bent >> 16) % 16));
-        put_bytes(room, 16);
-        record(bytes, instruction);
-        put(matnosoru_read_record(flags, custom, bytes, any >> 8 & 15));
-        memset(room, 0xEE, ROOM);
-        put(matnosoru_line(flags, custom, any >> (bent & 63), bytes, 16 - (any >> 60), room, any % 8 ? ROOM : (any >> 8) % ROOM));
-        put_bytes(room, ROOM);
-        /* two tables that are the same but for one bit */
-        for (int k = 0; k < 80; k++) tables[0][k] = tables[1][k] = (uint8_t)(custom >> (k & 7) * 8);
-        tables[1][any % 80] ^= (uint8_t)(1 << (any >> 8 & 7));
-        put(round % 64 ? 0 : matnosoru_tables_differ(tables[0], 80, tables[1], 80 - (any >> 63)));
-        while (at < start + BLOCK) out[at++] = 0;
-        if (at > start + BLOCK) call(EXIT, 2, 0, 0);
+        round_of(round);
+        if (at % BLOCK) call(EXIT, 2, 0, 0);
         if (at == sizeof out) flush();
     }
     flush();
