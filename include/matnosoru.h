@@ -68,7 +68,8 @@ extern "C" {
 /* What matnosoru_tables_differ answers where two tables make the same CSRs available. */
 #define MATNOSORU_SAME 32768
 
-/* The refusal's number in an answer of any function but the three readings; 0 where the answer is no refusal. */
+/* The refusal's number in an answer that may be one, a reading's excepted; 0 where the answer is no refusal.
+ * (matnosoru_sign_extend and matnosoru_calculate_addr never refuse, and may answer any number.) */
 #define MATNOSORU_REFUSAL(answer) ((uint64_t)(answer) >> 32)
 
 /* The refusal's number in the answer of a reading; 0 where the answer is an instruction. (It uses its argument twice.) */
@@ -102,7 +103,7 @@ enum matnosoru_refusal {
     MATNOSORU_READ_ONLY = 8,      /* writing: the CSR operation writes a read-only CSR */
     MATNOSORU_NO_FORM = 9,        /* writing: no form with this width, sign, compression and registers */
     MATNOSORU_IMMEDIATE = 10,     /* writing: immediate outside the form's range or step */
-    MATNOSORU_RECORD_KIND = 11,   /* log: the kind byte is none of those listed */
+    MATNOSORU_RECORD_KIND = 11,   /* log: the kind byte is not one of those listed */
     MATNOSORU_CUT_SHORT = 12,     /* log: empty, or the body is cut short */
     MATNOSORU_FIELD = 13,         /* log: a field that no writer would write under this profile */
     MATNOSORU_OUTPUT_SHORT = 14,  /* the output buffer is shorter than what is to be written */

@@ -160,7 +160,7 @@ static void hold_log(void) {
     hold_listing(LOG, sizeof LOG, LISTING, sizeof LISTING - 1);
     hold_listing(NULL, 0, NOTHING, sizeof NOTHING - 1);
     memcpy(spoilt, LOG, sizeof LOG);
-    spoilt[18] = 3; /* a width that none has */
+    spoilt[18] = 3; /* no load has this width */
     hold_listing(spoilt, sizeof LOG, SPOILT, sizeof SPOILT - 1);
     /* the four records, one by one, and what writes them */
     HOLD(matnosoru_write_profile(0, 0, 0, record, sizeof record), 11);

@@ -21,10 +21,10 @@
 //!
 //! Where a word is a SYSTEM instruction, a load or a store as document 01 has them, the answers are the original's. They differ:
 //!
-//! - `decode_load` and `decode_store` of a word that is none. The original has `todo!` for low two bits 10, `unreachable!` for 01, for
-//!   the compressed words of other instructions and for the reserved store widths; it reads other opcodes (such as flw, lr.w, or a
-//!   store in `decode_load`) as if they were loads or stores, and the reserved load width as 64 bits unsigned. The library refuses
-//!   all of these, and this file panics with the word and the refusal's number.
+//! - `decode_load` and `decode_store` of a word that is no load or store. The original has `todo!` for low two bits 10, `unreachable!`
+//!   for 01, for the compressed words of other instructions and for the reserved store widths; it reads other opcodes (such as flw,
+//!   lr.w, or a store in `decode_load`) as if they were loads or stores, and the reserved load width as 64 bits unsigned. The library
+//!   refuses all of these, and this file panics with the word and the refusal's number.
 //! - Nothing is logged of an unknown CSR.
 
 use matnosoru::{Profile, Refusal};
@@ -136,7 +136,7 @@ impl MiralisContext {
         }
     }
 
-    /// Decodes a raw read RISC-V instruction, or answers why it is none: refusal 3 (not such a form), 4 (the reserved width) or 5 (low
+    /// Decodes a raw read RISC-V instruction, or answers why it is no load: refusal 3 (not such a form), 4 (the reserved width) or 5 (low
     /// two bits 10).
     pub fn try_decode_load(&self, raw: usize) -> Result<LoadInstr, Refusal> {
         let load = self.profile(0).decode_load(raw)?;
@@ -150,7 +150,7 @@ impl MiralisContext {
         })
     }
 
-    /// Decodes a raw write RISC-V instruction, or answers why it is none: refusal 3 (not such a form), 4 (a reserved width) or 5 (low
+    /// Decodes a raw write RISC-V instruction, or answers why it is no store: refusal 3 (not such a form), 4 (a reserved width) or 5 (low
     /// two bits 10).
     pub fn try_decode_store(&self, raw: usize) -> Result<StoreInstr, Refusal> {
         let store = self.profile(0).decode_store(raw)?;

@@ -53,7 +53,7 @@ mod streams;
 
 #[cfg(not(have_miralis))]
 fn main() {
-    println!("bench: no Miralis text at hand (MIRALIS_SRC names its folder): nothing is timed");
+    println!("bench: no Miralis text here (MIRALIS_SRC names its folder): nothing is timed");
 }
 
 #[cfg(have_miralis)]

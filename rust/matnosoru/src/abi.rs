@@ -211,8 +211,8 @@ pub fn bad_line(number: u64, at: u64, out: &mut [u8]) -> u64 {
     unsafe { ffi::matnosoru_bad_line(number, at, out.as_mut_ptr(), out.len()) }
 }
 
-/// Compares two tables of [`TABLE_LENGTH`] bytes: `hart * 4096 + address` of the first difference, [`SAME`] where there is none, or
-/// the refusal.
+/// Compares two tables of [`TABLE_LENGTH`] bytes: `hart * 4096 + address` of the first difference, [`SAME`] where they differ nowhere,
+/// or the refusal.
 #[inline]
 #[must_use]
 pub fn tables_differ(a: &[u8], b: &[u8]) -> u64 {

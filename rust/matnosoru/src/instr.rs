@@ -152,7 +152,7 @@ impl From<StoreInstr> for Instr {
     }
 }
 
-/// An address where no register stands, under any profile. A register that has no address crosses with this one, so that it is the
+/// An address that has no register under any profile. A register that has no address crosses with this one, so that it is the
 /// library that says no, and says it in its order (an immediate above 31 comes first).
 const NOWHERE: usize = 0xFFF;
 

@@ -2,7 +2,7 @@
 
 use crate::{Instr, Profile, Refusal, abi};
 
-/// Which reading refused a word. A later log may name one that is none of these.
+/// Which reading refused a word. A later log may name others.
 #[derive(Clone, Copy, Debug, PartialEq, Eq, Hash)]
 #[non_exhaustive]
 #[repr(u8)]

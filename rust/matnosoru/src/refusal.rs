@@ -26,7 +26,7 @@ pub enum Refusal {
     NoForm,
     /// 10, writing: the immediate is outside the form's range or step.
     ImmediateRange,
-    /// 11, log: the kind byte is none of those listed.
+    /// 11, log: the kind byte is not one of those listed.
     RecordKind,
     /// 12, log: empty, or the body is cut short.
     CutShort,

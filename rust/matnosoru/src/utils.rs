@@ -33,7 +33,7 @@ impl Width {
         self.to_bits() / 8
     }
 
-    /// The width of so many bits, if there is one. (Miralis's `From<usize>` panics where there is none.)
+    /// The width of so many bits, if there is one. (Miralis's `From<usize>` panics for any other number.)
     #[must_use]
     pub const fn from_bits(bits: usize) -> Option<Width> {
         match bits {

@@ -19,7 +19,7 @@ fn listing(log: &[u8]) -> String {
 fn thirty_five() {
     assert_eq!(listing(&LOG), "at kind answer\n0 0A hart 0\n11 05 F14022F3\n17 07 80052283\n24 09 refused 2\nend 35\n");
     assert_eq!(listing(&[]), "at kind answer\nend 0\n");
-    // the load's width is a code that none has
+    // no load has this width
     let mut bad = LOG;
     bad[18] = 3;
     assert_eq!(listing(&bad), "at kind answer\n0 0A hart 0\n11 05 F14022F3\nbad 13 at 17\n");

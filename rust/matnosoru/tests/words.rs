@@ -51,7 +51,7 @@ fn plain() {
     assert_eq!(EMPTY.decode_illegal_instruction(0x10200073), Ok(Sret));
     assert_eq!(EMPTY.decode_illegal_instruction(0x22B50073), Ok(Hfencevvma { rs1: X10, rs2: X11 }));
     assert_eq!(EMPTY.decode_illegal_instruction(0x62B50073), Ok(Hfencegvma { rs1: X10, rs2: X11 }));
-    // ecall, and a CSR form's funct3 4, which is none
+    // ecall, and funct3 4, which no CSR form has
     assert_eq!(EMPTY.decode_illegal_instruction(0x73), Err(Refusal::Unknown));
     assert_eq!(EMPTY.decode_illegal_instruction(0xF14042F3), Err(Refusal::Unknown));
     // immediates, and a set that writes nothing on a read-only register

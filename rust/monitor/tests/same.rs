@@ -4,7 +4,7 @@
 #[cfg(not(have_miralis))]
 #[test]
 fn text() {
-    println!("no Miralis text at hand (MIRALIS_SRC names its folder): nothing is compared");
+    println!("no Miralis text here (MIRALIS_SRC names its folder): nothing is compared");
 }
 
 #[cfg(have_miralis)]
