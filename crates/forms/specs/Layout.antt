@@ -5,7 +5,7 @@ use mathlib.Core.Bool.{Bool, true, _&&_, not, cond}
 use mathlib.Core.List.{List, [], _∷_}
 use lib.Dec.{eqb, leb, ltb}
 
--- what an instruction is made of; a number stands for each
+-- what an instruction is made of; each is a number
 pub data Operand : Type 0 where
   imm : Operand
   rd : Operand

@@ -1,5 +1,5 @@
-// What a form of instruction is, and what follows for any table of forms. The theory stands in specs/ and proofs/; of the
-// code there is only the answer that writing gives.
+// What a form of instruction is, and what follows for any table of forms. The theory is in specs/ and proofs/; the only
+// code is the answer that writing gives.
 
 // What writing an instruction answers: the word, or the number of the refusal.
 pub enum Wrote {

@@ -37,11 +37,11 @@ operandsOf i funct = sizeOf (i .len)
 operandsOf i csr = 0
 operandsOf i short = bitOf (i .«is_compressed»)
 
--- a word that is no line: 5 where its low two bits are 10, 4 where its opcode is the stores', else 3
+-- a word that has no line: 5 where its low two bits are 10, 4 where its opcode is the stores', else 3
 abbrev pub why : ℕ → ℕ
 why w = cond (eqb (w % 2 ^ 2) 0b10) 5 (cond (eqb (w % 2 ^ 7) 0x23) 4 3)
 
--- a store that is none: 6 where a register is above 31, else 9
+-- a store that has no line: 6 where a register is above 31, else 9
 abbrev pub whyNot : StoreInstr → ℕ
 whyNot i = cond (leb (i .rs2 .0) 31 && leb (i .rs1 .0) 31) 9 6
 

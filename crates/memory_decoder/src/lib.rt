@@ -1,4 +1,4 @@
-// Loads and stores, compressed ones with them, and how a word is read as one: `decode_load` and `decode_store` of Miralis's
+// Loads and stores, register-based compressed ones included, and how a word is read as one: `decode_load` and `decode_store` of Miralis's
 // src/decoder.rs.
 ghost use mathlib.Core.Path.{_≡_};
 ghost use Prim.Native.Nat.{_+_, _%_, _^_, _<_};
@@ -218,7 +218,7 @@ fn compressed_double_imm(raw: usize) -> isize
     (imm_7_6 | imm_5_3) as isize
 }
 
-// The width that funct3 stands for in loads and in stores.
+// The width that funct3 gives, in loads and in stores.
 fn width_of(func3: usize) -> Width
     ensures { λ r. ⌜ r ≡ widthOf func3 ⌝ }
 {

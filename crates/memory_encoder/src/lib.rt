@@ -1,5 +1,5 @@
 // Loads and stores as words: the way back from the load and store readings of the crate `memory_decoder`. An instruction may hold any
-// numbers; what no word stands for is refused by document 01's numbers.
+// numbers; one that has no word is refused with document 01's numbers.
 ghost use mathlib.Core.Path.{_≡_};
 ghost use Prim.Native.Nat.{_≤_, _<_};
 ghost use Rattle.utils.specs.Signed.{codeDef};

@@ -1,4 +1,4 @@
--- Where each CSR is: the addresses of Volume II's tables of CSRs, for the registers of the Rust's list, and the list itself.
+-- Where each CSR is: the manuals' addresses, for the registers of the Rust's list, and the list itself.
 use mathlib.Core.Bool.{Bool, true, false, _&&_}
 use mathlib.Core.List.{List, [], _∷_, map}
 use Prim.Native.Nat.{ℕ, _+_, _*_, _%_}

@@ -20,7 +20,7 @@ impl Register {
     }
 }
 
-// The register whose number the five bits of a word from bit `k` up are; past the word's 64 bits they are 0.
+// The register in bits k+4:k of `raw`; a bit past bit 63 is 0.
 pub fn register_at(raw: usize, k: usize) -> Register
     ensures { λ r. ⌜ r ≡ record { 0 = fld raw k 5 } ⌝ }
 {
@@ -462,7 +462,7 @@ impl Csr {
     }
 
     // Return the index of the CSR (i.e. its address in the CSR address space), or refusal 7 for a payload that `decode_csr`
-    // gives under no profile. The Rust answers there, with another register's address or one that overflows.
+    // gives under no profile. The Rust answers another register's address there, or one that no register has, or overflows.
     pub fn idx(self) -> Idx
         ensures { λ r. ⌜ r ≡ idxDef self ⌝ }
     {

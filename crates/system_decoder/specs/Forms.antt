@@ -1,5 +1,5 @@
 -- The SYSTEM words that are read, a line each, as the manuals draw them: the word's bits from the highest down, and after them what the word does
--- not hold. They are Volume I's Zicsr and Volume II's listing of privileged instructions.
+-- not hold. They are Volume I's Zicsr and six of Volume II's privileged instructions; docs/DIFFERENCES.md lists the others.
 use Prim.Native.Nat.{ℕ}
 use mathlib.Core.List.{List, [], _∷_, _++_}
 use Rattle.forms.specs.Layout.{Layout, rd, rs1, rs2, funct, csr}

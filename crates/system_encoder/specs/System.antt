@@ -39,7 +39,7 @@ checkedDef p (fence f a b) = below32 a b (form (fence f a b)) (none 6)
 checkedDef p (access o m a d x) = below32 d x (reached (available p a) (barredDef a (always o) x) (access o m a d x)) (none 6)
 
 -- ---- the shape of an instruction
--- a register that has no address of its own stands at 4096, where no profile has one
+-- a register that has no address of its own gets 4096, where no profile has one
 abbrev pub placeOf : Idx → ℕ
 placeOf (At a) = a
 placeOf (Nowhere n) = 2 ^ 12

@@ -1,5 +1,5 @@
-// RISC-V instruction encoder: the way back from the SYSTEM reading of the crate `decoder`. An instruction may hold any numbers; what
-// no word stands for is refused by document 01's numbers.
+// RISC-V instruction encoder: the way back from the SYSTEM reading of the crate `decoder`. An instruction may hold any numbers; one
+// that has no word is refused with document 01's numbers.
 ghost use mathlib.Core.Path.{_≡_};
 ghost use Prim.Native.Nat.{_*_, _^_};
 ghost use Rattle.forms.specs.declared.Wrote.the-variants.{Word};

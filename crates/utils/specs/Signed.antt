@@ -1,4 +1,4 @@
--- Two's complement over a half H: the codes 0 to 2 H - 1 stand for -H to H - 1. H is 2 ^ 11 for an immediate of twelve bits,
+-- Two's complement over a half H: the codes 0 to 2 H - 1 mean -H to H - 1. H is 2 ^ 11 for an immediate of twelve bits,
 -- 2 ^ 15 for the log's, 2 ^ 63 for a register. An integer z is in the range exactly when mag z < H (`lib.Signed`).
 use Prim.Native.Nat.{ℕ, _-_, _*_}
 use mathlib.Core.Bool.{cond}
@@ -10,7 +10,7 @@ use Rattle.utils.specs.declared.Code.the-variants.{Is, Out}
 use Rattle.utils.specs.declared.Sign.{Sign}
 use Rattle.utils.specs.declared.Sign.the-variants.{Up, Down}
 
--- the integer that the code y stands for: y below H, y - 2 H from H on (`negsuc m` is -(m + 1))
+-- the integer that the code y means: y below H, y - 2 H from H on (`negsuc m` is -(m + 1))
 abbrev pub signed : ℕ → ℕ → ℤ
 signed H y = cond (ltb y H) (pos y) (negsuc (2 * H - 1 - y))
 

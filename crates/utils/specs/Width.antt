@@ -26,7 +26,7 @@ widthFrom n =
     (cond (eqb n 64) (Is Byte8)
     Invalid)))
 
--- half of the codes that a width has: the first that stands for a negative number
+-- half of the codes that a width has: the first that means a negative number
 abbrev pub halfOf : Width → ℕ
 halfOf w = 2 ^ (bitsOf w - 1)
 

@@ -18,7 +18,7 @@ pub enum Width {
     Byte8,
 }
 
-// The width of so many bits; the Rust panics where there is none.
+// The width of so many bits; the Rust panics if there is no such width.
 pub enum WidthFrom {
     Is(Width),
     Invalid,
@@ -125,7 +125,7 @@ pub fn sign_of(z: isize) -> Sign
     }
 }
 
-// The code of a signed number in a field, or none.
+// The code of a signed number in a field, or `Out`.
 pub enum Code {
     Is(usize),
     Out,
