@@ -38,7 +38,7 @@ fn allows(ctx: Profile, gate: Gate) -> bool
     }
 }
 
-// What stands at a CSR address, whatever the profile: a register, behind its gate.
+// What is at a CSR address, whatever the profile: a register behind its gate, or nothing.
 enum Slot {
     Holds(Gate, Csr),
     Empty,
@@ -326,7 +326,7 @@ fn slot_at(csr: usize) -> Slot
     Slot::Holds(gate, found)
 }
 
-// What stands at a CSR address under a profile.
+// What is at a CSR address under a profile.
 pub enum CsrLookup {
     Found(Csr),
     Missing,
