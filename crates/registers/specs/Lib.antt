@@ -1,3 +1,4 @@
 pub mod Find
 pub mod Address
 pub mod Masks
+pub mod Numbers

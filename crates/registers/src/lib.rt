@@ -5,6 +5,7 @@ ghost use lib.Dec.{leb};
 ghost use Rattle.utils.specs.Field.{fld};
 ghost use Rattle.registers.specs.Address.{atIf, idxDef};
 ghost use Rattle.registers.specs.Masks.{masksOf};
+ghost use Rattle.registers.specs.Numbers.{areValid};
 
 // General purpose registers.
 //
@@ -28,6 +29,13 @@ pub fn register_at(raw: usize, k: usize) -> Register
         return Register(0);
     }
     Register::from((raw >> k) & 0b11111)
+}
+
+// Whether both numbers are those of registers, 0 to 31: what a word's fields of five bits hold.
+pub fn are_valid(a: usize, b: usize) -> bool
+    ensures { λ r. ⌜ r ≡ areValid a b ⌝ }
+{
+    a <= 31 && b <= 31
 }
 
 // A RISC-V Control and Status Register (CSR).
