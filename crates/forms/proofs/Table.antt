@@ -9,10 +9,16 @@ use borrow.Author.Tests.{eqb-true, eqb-false, not-true}
 use lib.Dec.{eqb}
 use lib.Pow.{field, shr-shr, mod-mod-pow}
 use Rattle.forms.specs.Layout.{Layout, const, take, given, avoid, Operand, imm, others, all, bits, width, matches, build, read, spares, Piece, piece, from, lit, pieces, holds, readable, chosen, good}
-use Rattle.forms.specs.Table.{Kind, form, none, first, any, Bit, bit, spread, ofWord, ofPieces, differs, clash, apart, distinct, sound}
+use Rattle.forms.specs.Table.{Kind, form, none, numberIn, first, any, Bit, bit, spread, ofWord, ofPieces, differs, clash, apart, distinct, sound}
 use Rattle.utils.proofs.Tests.{both, either, on}
 use Rattle.forms.proofs.Tests.{not-any}
 use Rattle.forms.proofs.Laws.{Held, holds-true, read-build, read-holds, build-lt, readable-chosen, chosen-back, chosen-readable}
+
+-- ---- answers
+-- a number other than 0 is a refusal's
+pub refused-with : {F : Type 0} (k : Kind F) {n : ℕ} → n ≡ numberIn k → (n ≡ 0 → ⊥) → k ≡ none n
+refused-with (form x) e h = absurd (h e)
+refused-with (none m) e h = ap none (sym e)
 
 -- ---- the first that passes
 pub no-form : {F X : Type 0} (n : ℕ) (f : F) → none n ≡ form f → X

@@ -11,6 +11,11 @@ pub data Kind (F : Type 0) : Type 0 where
   form : F → Kind F
   none : ℕ → Kind F
 
+-- the refusal's number, 0 where there is none
+abbrev pub numberIn : {F : Type 0} → Kind F → ℕ
+numberIn (form x) = 0
+numberIn (none n) = n
+
 -- the first that passes, or n
 abbrev pub first : (Layout → Bool) → List Layout → ℕ → Kind Layout
 first p [] n = none n

@@ -3,9 +3,12 @@ use mathlib.Core.Path.{_≡_, refl}
 use mathlib.Core.Bool.{Bool, true, false, _&&_}
 use Prim.Native.Nat.{ℕ, _≤_, _<_}
 use lib.Dec.{leb}
-use borrow.Author.Tests.{leb-true, leb-false}
+use borrow.Author.Tests.{leb-true, leb-false, le-leb}
 use Rattle.utils.proofs.Tests.{both}
 use Rattle.registers.specs.Numbers.{areValid}
+
+pub are-valid : (a b : ℕ) → a ≤ 31 → b ≤ 31 → areValid a b ≡ true
+are-valid a b g h = rw (le-leb a 31 g, le-leb b 31 h)
 
 pub valid : (a b : ℕ) → areValid a b ≡ true → (a ≤ 31) × (b ≤ 31)
 valid a b e = let t = both (leb a 31) (leb b 31) e in (leb-true a 31 (t .0), leb-true b 31 (t .1))

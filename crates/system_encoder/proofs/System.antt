@@ -1,18 +1,20 @@
 -- The demand on reading and writing (forms' `Demand3`), for the SYSTEM reading: over `illegalDef` and `encodeIllegalDef`, any profile, and any
 -- instruction value, nonsense included. The table gives it for shapes; what a profile makes of a shape goes both ways. Assumes nothing.
 use mathlib.Core.Path.{_≡_, refl, sym, ap, _∙_, subst}
-use mathlib.Core.Bool.{Bool, true, false, _&&_, cond}
+use mathlib.Core.Bool.{Bool, true, false, cond}
 use mathlib.Core.List.{List, [], _∷_}
 use Prim.Native.Nat.{ℕ, zero, suc, _^_, _≤_, _<_}
 use native.Mathlib.Omega.{arith}
-use borrow.Author.Tests.{leb-true, lt-ltb}
-use lib.Dec.{leb, ltb}
+use borrow.Author.Tests.{lt-ltb}
+use lib.Dec.{ltb}
 use lib.ListN.{getD}
 use Rattle.utils.specs.declared.Code.the-variants.{Is}
 use Rattle.registers.specs.declared.Csr.{Csr}
 use Rattle.registers.specs.declared.Idx.{Idx}
 use Rattle.registers.specs.declared.Idx.the-variants.{At, Refused as Nowhere}
 use Rattle.registers.specs.Address.{idxDef}
+use Rattle.registers.specs.Numbers.{areValid}
+use Rattle.registers.proofs.Numbers.{are-valid, valid}
 use Rattle.csrs.specs.declared.CsrLookup.{CsrLookup}
 use Rattle.csrs.specs.declared.CsrLookup.the-variants.{Found, Missing}
 use Rattle.profiles.specs.declared.Profile.{Profile}
@@ -20,10 +22,10 @@ use Rattle.csrs.specs.Gates.{decodeCsrDef, isFound, available}
 use Rattle.csrs.proofs.Laws.{found-idx, found-lt, own}
 use Rattle.forms.specs.declared.Wrote.the-variants.{Word}
 use Rattle.forms.specs.Layout.{Layout, Operand, imm, rd, rs1, rs2, funct, csr, all}
-use Rattle.forms.specs.Table.{Kind, form, none, sound}
+use Rattle.forms.specs.Table.{Kind, form, none, numberIn, sound}
 use Rattle.forms.specs.Speech.{Says, Every, Faithful, readOf, writeOf}
 use Rattle.forms.specs.Demand3.{RefusedExactly, OnlyWord}
-use Rattle.utils.proofs.Tests.{both, on}
+use Rattle.utils.proofs.Tests.{on}
 use Rattle.forms.proofs.Accepts.{room, roomy, made-of}
 use Rattle.forms.proofs.Table.{no-form}
 use Rattle.forms.proofs.AnyReader.{no-word, refused-by, only-by}
@@ -39,7 +41,7 @@ use Rattle.system_decoder.specs.Forms.{system, accesses}
 use Rattle.system_decoder.specs.declared.Shape.{Shape}
 use Rattle.system_decoder.specs.declared.Shape.the-variants.{Wfi as wfi, Mret as mret, Sret as sret, Fence as fence, Access as access}
 use Rattle.system_decoder.specs.System.{Low, shapes, operandsOf, speech, always, barredDef, instOf, fenceOf, foundDef, instAt, readShape, accessAt, shapeAt, illegalDef}
-use Rattle.system_encoder.proofs.SystemSteps.{past-6, access-word, fence-word}
+use Rattle.system_encoder.proofs.SystemSteps.{access-word, fence-word}
 use Rattle.system_encoder.specs.System.{reached, checkedDef, placeOf, accessTo, ownShape, shapeFor, writeShape, encodeIllegalDef}
 
 -- ---- the table of shapes
@@ -142,11 +144,11 @@ inst-back p mret i l e = let z : Mret ≡ i = cc in ap (shapeFor p) (sym z)
 inst-back p sret i l e = let z : Sret ≡ i = cc in ap (shapeFor p) (sym z)
 inst-back p (fence f a b) i l e =
     let z : fenceOf f a b ≡ i = cc in
-    ap (shapeFor p) (sym z) ∙ ap (checkedDef p) (own-fence f a b) ∙ sym (past-6 a b (form (fence f a b)) (none 6) (l .0) (l .1))
+    ap (shapeFor p) (sym z) ∙ ap (checkedDef p) (own-fence f a b) ∙ ap (λ (v : Bool). cond v (form (fence f a b)) (none 6)) (are-valid a b (l .0) (l .1))
 inst-back p (access o m a d x) i l e =
     let t = legal p o m a d x i e in
     ap (shapeFor p) (sym (t .is)) ∙ ap (checkedDef p) (own-found p o m a d x (t .csr) (t .at))
-    ∙ sym (past-6 d x (reached (available p a) (barredDef a (always o) x) (access o m a d x)) (none 6) (l .1 .0) (l .1 .1))
+    ∙ ap (λ (v : Bool). cond v (reached (available p a) (barredDef a (always o) x) (access o m a d x)) (none 6)) (are-valid d x (l .1 .0) (l .1 .1))
     ∙ (λ j. reached (isFound (t .at j)) (t .free j) (access o m a d x))
 
 module _ (p : Profile) where
@@ -155,11 +157,11 @@ module _ (p : Profile) where
   Reads i (none n) = Unit {0}
 
   fence-reads : (f : Fence) (a b : ℕ) → Reads (fenceOf f a b) (checkedDef p (fence f a b))
-  fence-reads f a b = on (Reads (fenceOf f a b)) (leb a 31 && leb b 31) (λ _. refl) (λ _. tt)
+  fence-reads f a b = on (Reads (fenceOf f a b)) (areValid a b) (λ _. refl) (λ _. tt)
 
   access-reads : (o : CsrOp) (m : Bool) (c : Csr) (d x : ℕ) → Reads (instOf o m c d x) (checkedDef p (accessTo o m c d x))
   unfolding available
-  access-reads o m c d x = on Read (leb d 31 && leb x 31) (λ _. place (idxDef c) refl) (λ _. tt)
+  access-reads o m c d x = on Read (areValid d x) (λ _. place (idxDef c) refl) (λ _. tt)
     where
       Read : Kind Shape → Type 0
       Read = Reads (instOf o m c d x)
@@ -199,16 +201,38 @@ checked-is p wfi t = λ e. let z : wfi ≡ t = cc in (z, subst Low z tt)
 checked-is p mret t = λ e. let z : mret ≡ t = cc in (z, subst Low z tt)
 checked-is p sret t = λ e. let z : sret ≡ t = cc in (z, subst Low z tt)
 checked-is p (fence f a b) t =
-    on (λ (k : Kind Shape). k ≡ form t → (fence f a b ≡ t) × Low t) (leb a 31 && leb b 31)
-    (λ q e. let l = both (leb a 31) (leb b 31) q in let z : fence f a b ≡ t = cc in (z, subst Low z (leb-true a 31 (l .0), leb-true b 31 (l .1)))) (λ _ e. no-form 6 t e)
+    on (λ (k : Kind Shape). k ≡ form t → (fence f a b ≡ t) × Low t) (areValid a b)
+    (λ q e. let z : fence f a b ≡ t = cc in (z, subst Low z (valid a b q))) (λ _ e. no-form 6 t e)
 checked-is p (access o m a d x) t =
-    on (λ (k : Kind Shape). k ≡ form t → (access o m a d x ≡ t) × Low t) (leb d 31 && leb x 31)
-    (λ q. let l = both (leb d 31) (leb x 31) q in go (leb-true d 31 (l .0)) (leb-true x 31 (l .1)) (decodeCsrDef p a) refl (barredDef a (always o) x)) (λ _ e. no-form 6 t e)
+    on (λ (k : Kind Shape). k ≡ form t → (access o m a d x ≡ t) × Low t) (areValid d x)
+    (λ q. let l = valid d x q in go (l .0) (l .1) (decodeCsrDef p a) refl (barredDef a (always o) x)) (λ _ e. no-form 6 t e)
   where
     go : d ≤ 31 → x ≤ 31 → (k : CsrLookup) → decodeCsrDef p a ≡ k → (b : Bool) → reached (isFound k) b (access o m a d x) ≡ form t → (access o m a d x ≡ t) × Low t
     go g h (Found c) q true e = no-form 8 t e
     go g h (Found c) q false e = let z : access o m a d x ≡ t = cc in (z, subst Low z (found-lt p a c q, (g, h)))
     go g h Missing q b e = no-form 7 t e
+
+-- a shape that is refused with 0 is not refused
+abbrev Numbered : Kind Shape → Type 0
+Numbered (form s) = Unit {0}
+Numbered (none n) = 0 < n
+
+numbered : (p : Profile) (s : Shape) → Numbered (checkedDef p s)
+numbered p wfi = tt
+numbered p mret = tt
+numbered p sret = tt
+numbered p (fence f a b) = on Numbered (areValid a b) (λ _. tt) (λ _. omega arith)
+numbered p (access o m a d x) =
+    on Numbered (areValid d x)
+    (λ _. on Numbered (available p a) (λ _. on Numbered (barredDef a (always o) x) (λ _. omega arith) (λ _. tt)) (λ _. omega arith))
+    (λ _. omega arith)
+
+pub not-refused : (p : Profile) (s : Shape) → numberIn (checkedDef p s) ≡ 0 → (checkedDef p s ≡ form s) × Low s
+not-refused p s = go (checkedDef p s) refl (numbered p s)
+  where
+    go : (k : Kind Shape) → checkedDef p s ≡ k → Numbered k → numberIn k ≡ 0 → (checkedDef p s ≡ form s) × Low s
+    go (form t) e h z = let c = checked-is p s t e in (e ∙ ap form (sym (c .0)), subst Low (sym (c .0)) (c .1))
+    go (none n) e h z = absurd (omega arith)
 
 low-word : (s : Shape) → Low s → (w : ℕ) × (writeOf system speech s ≡ Word w)
 low-word wfi l = (_, refl)

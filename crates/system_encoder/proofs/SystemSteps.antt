@@ -5,12 +5,12 @@ use mathlib.Core.List.{[], _∷_}
 use Prim.Native.Nat.{ℕ, _-_, _*_, _%_, _^_, _≤_, _<_}
 use native.Mathlib.Nat.{mod-eq-of-lt}
 use native.Mathlib.Omega.{arith}
-use borrow.Author.Tests.{le-leb, lt-leb, not-true, not-false}
+use borrow.Author.Tests.{not-true, not-false}
 use lib.Bits.{bitAnd, bitOr, and-mask}
 use lib.Dec.{leb}
 use Rattle.forms.specs.declared.Wrote.the-variants.{Word}
 use Rattle.forms.specs.Layout.{Layout, Operand, imm, rd, rs1, rs2, funct, csr, short, all, width, holds, good, build}
-use Rattle.forms.specs.Table.{form, none, first}
+use Rattle.forms.specs.Table.{form, none, numberIn, first}
 use Rattle.forms.specs.Speech.{writeAs, writeOf, put}
 use Rattle.forms.proofs.Facts.{under}
 use Rattle.forms.proofs.Choices.{Told, exactly, such, KnownAs, picks, drops, by-operands}
@@ -24,19 +24,10 @@ use Rattle.system_decoder.specs.Forms.{funct7, sfence-vma, hfence-vvma, hfence-
 use Rattle.system_decoder.specs.declared.Shape.{Shape}
 use Rattle.system_decoder.specs.declared.Shape.the-variants.{Fence as fence, Access as access}
 use Rattle.system_decoder.specs.System.{operands, operandsOf, funct3, always, barredDef, speech}
+use Rattle.registers.specs.Numbers.{areValid}
 use Rattle.profiles.specs.declared.Profile.{Profile}
 use Rattle.csrs.specs.Gates.{available}
-use Rattle.system_encoder.specs.System.{below32, reached, checkedDef}
-
--- ---- 6: z is the refusal
-pub first-6 : {X : Type 0} (a b : ℕ) (k z : X) → 31 < a → z ≡ below32 a b k z
-first-6 a b k z h = rw (lt-leb a 31 h)
-
-pub second-6 : {X : Type 0} (a b : ℕ) (k z : X) → a ≤ 31 → 31 < b → z ≡ below32 a b k z
-second-6 a b k z g h = rw (le-leb a 31 g, lt-leb b 31 h)
-
-pub past-6 : {X : Type 0} (a b : ℕ) (k z : X) → a ≤ 31 → b ≤ 31 → k ≡ below32 a b k z
-past-6 a b k z g h = rw (le-leb a 31 g, le-leb b 31 h)
+use Rattle.system_encoder.specs.System.{reached, checkedDef}
 
 -- ---- the words
 -- what is known of a shape's operands: of the line's number, rd, rs1, rs2 and the CSR
@@ -106,15 +97,22 @@ module _ (a b : ℕ) (la : a ≤ 31) (lb : b ≤ 31) where
   fence-word Vvma = by-line (fence Vvma a b) (fenceTold 4) (fence-known (fence Vvma a b) 4 refl) hfence-vvma refl refl refl refl refl (fence-masks (funct7 Vvma * 2 ^ 25))
   fence-word Gvma = by-line (fence Gvma a b) (fenceTold 5) (fence-known (fence Gvma a b) 5 refl) hfence-gvma refl refl refl refl refl (fence-masks (funct7 Gvma * 2 ^ 25))
 
--- ---- 7 and 8: t is what `is_available` gave, b what `is_barred` gave
-module _ (p : Profile) (o : CsrOp) (m : Bool) (a d x : ℕ) (ld : d ≤ 31) (lx : x ≤ 31) {t : Bool} (e : t ≡ available p a) where
-  asked : (u : Bool) → t ≡ u → {b : Bool} → b ≡ barredDef a (always o) x → reached u b (access o m a d x) ≡ checkedDef p (access o m a d x)
-  asked u q v =
-      (λ j. reached ((sym q ∙ e) j) (v j) (access o m a d x)) ∙ past-6 d x (reached (available p a) (barredDef a (always o) x) (access o m a d x)) (none 6) ld lx
+-- ---- 6, 7 and 8 of an access: v is what `are_valid` gave, t `is_available`, b `is_barred`
+module _ (p : Profile) (o : CsrOp) (a d x : ℕ) {v : Bool} (e : v ≡ areValid d x) where
+  asked : (u t b : Bool) → v ≡ u → t ≡ available p a → b ≡ barredDef a (always o) x → (m : Bool)
+      → numberIn (cond u (reached t b (access o m a d x)) (none 6)) ≡ numberIn (checkedDef p (access o m a d x))
+  asked u t b q f g m = λ j. numberIn (cond ((sym q ∙ e) j) (reached (f j) (g j) (access o m a d x)) (none 6))
 
-  pub unavailable : not t ≡ true → none 7 ≡ checkedDef p (access o m a d x)
-  unavailable q = asked false (not-true t q) refl
+  pub past-31 : not v ≡ true → (m : Bool) → 6 ≡ numberIn (checkedDef p (access o m a d x))
+  past-31 q = asked false (available p a) (barredDef a (always o) x) (not-true v q) refl refl
 
-  module _ (q : not t ≡ false) {w : Bool} (v : w ≡ always o) {b : Bool} (k : b ≡ barredDef a w x) where
-    pub barring : {c : Bool} → b ≡ c → reached true c (access o m a d x) ≡ checkedDef p (access o m a d x)
-    barring z = asked true (not-false t q) (sym z ∙ k ∙ ap (λ (y : Bool). barredDef a y x) v)
+  module _ (low : not v ≡ false) {t : Bool} (f : t ≡ available p a) where
+    pub unavailable : not t ≡ true → (m : Bool) → 7 ≡ numberIn (checkedDef p (access o m a d x))
+    unavailable q = asked true false (barredDef a (always o) x) (not-false v low) (sym (not-true t q) ∙ f) refl
+
+    module _ (there : not t ≡ false) {w : Bool} (g : w ≡ always o) {b : Bool} (h : b ≡ barredDef a w x) where
+      is-barred : b ≡ barredDef a (always o) x
+      is-barred = h ∙ ap (λ (y : Bool). barredDef a y x) g
+
+      pub barring : {c : Bool} → b ≡ c → (m : Bool) → numberIn (reached true c (access o m a d x)) ≡ numberIn (checkedDef p (access o m a d x))
+      barring {c} q = asked true true c (not-false v low) (sym (not-false t there) ∙ f) (sym q ∙ is-barred)

@@ -1,11 +1,11 @@
 -- The SYSTEM writing: the shape in which a profile lets an instruction be written, or why not; and the shape's word, by the table that reads it.
-use mathlib.Core.Bool.{Bool, true, false, _&&_, cond}
+use mathlib.Core.Bool.{Bool, true, false, cond}
 use Prim.Native.Nat.{ℕ, _^_}
-use lib.Dec.{leb}
 use Rattle.registers.specs.declared.Csr.{Csr}
 use Rattle.registers.specs.declared.Idx.{Idx}
 use Rattle.registers.specs.declared.Idx.the-variants.{At, Refused as Nowhere}
 use Rattle.registers.specs.Address.{idxDef}
+use Rattle.registers.specs.Numbers.{areValid}
 use Rattle.profiles.specs.declared.Profile.{Profile}
 use Rattle.csrs.specs.Gates.{available}
 use Rattle.forms.specs.declared.Wrote.{Wrote}
@@ -23,20 +23,17 @@ use Rattle.system_decoder.specs.declared.Shape.the-variants.{Wfi as wfi, Mret a
 use Rattle.system_decoder.specs.System.{always, barredDef, speech}
 
 -- ---- document 01's checks of a shape that may hold any numbers, in its order
--- 6: a register or uimm above 31
-abbrev pub below32 : {X : Type 0} → ℕ → ℕ → X → X → X
-below32 a b k refusal = cond (leb a 31 && leb b 31) k refusal
-
 -- 7: the register is not available; 8: the operation writes a read-only register
 abbrev pub reached : Bool → Bool → Shape → Kind Shape
 reached there barred s = cond there (cond barred (none 8) (form s)) (none 7)
 
+-- 6: a register or uimm above 31
 abbrev pub checkedDef : Profile → Shape → Kind Shape
 checkedDef p wfi = form wfi
 checkedDef p mret = form mret
 checkedDef p sret = form sret
-checkedDef p (fence f a b) = below32 a b (form (fence f a b)) (none 6)
-checkedDef p (access o m a d x) = below32 d x (reached (available p a) (barredDef a (always o) x) (access o m a d x)) (none 6)
+checkedDef p (fence f a b) = cond (areValid a b) (form (fence f a b)) (none 6)
+checkedDef p (access o m a d x) = cond (areValid d x) (reached (available p a) (barredDef a (always o) x) (access o m a d x)) (none 6)
 
 -- ---- the shape of an instruction
 -- a register that has no address of its own gets 4096, where no profile has one

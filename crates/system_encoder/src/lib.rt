@@ -1,12 +1,14 @@
 // RISC-V instruction encoder: the way back from the SYSTEM reading of the crate `decoder`. An instruction may hold any numbers; one
 // that has no word is refused with document 01's numbers.
 ghost use mathlib.Core.Path.{_≡_};
+ghost use mathlib.Core.Bool.{Bool};
 ghost use Prim.Native.Nat.{_*_, _^_};
 ghost use Rattle.forms.specs.declared.Wrote.the-variants.{Word};
+ghost use Rattle.forms.specs.Table.{numberIn};
 ghost use Rattle.forms.specs.Speech.{writeOf};
 ghost use Rattle.system_decoder.specs.Forms.{funct7, system};
-ghost use Rattle.system_decoder.specs.System.{shapeIn, Low, funct3, speech};
-ghost use Rattle.system_encoder.specs.System.{checkedDef, accessTo, ownShape, shapeFor, writeShape, encodeIllegalDef};
+ghost use Rattle.system_decoder.specs.System.{Low, funct3, speech};
+ghost use Rattle.system_encoder.specs.System.{checkedDef, accessTo, ownShape, writeShape, encodeIllegalDef};
 use forms::Wrote;
 use profiles::Profile;
 use registers::Csr;
@@ -16,7 +18,6 @@ use system_decoder::CsrOp;
 use system_decoder::Fence;
 use system_decoder::IllegalInst;
 use system_decoder::Shape;
-use system_decoder::Shaped;
 
 // The address of a register that has none: twelve bits hold no such number.
 const NO_ADDRESS: usize = 0x1000;
@@ -28,22 +29,15 @@ pub fn encode_illegal_instruction(ctx: Profile, inst: IllegalInst) -> Wrote
     encode_shape(ctx, own_shape(inst))
 }
 
-// The word of a shape that may hold any numbers.
+// The word of a shape that may hold any numbers, or refusal 6, 7 or 8.
 pub fn encode_shape(ctx: Profile, shape: Shape) -> Wrote
     ensures { λ r. ⌜ r ≡ writeShape (checkedDef ctx shape) ⌝ }
 {
-    match checked(ctx, shape) {
-        Shaped::Is(low) => Wrote::Word(word_of(low)),
-        Shaped::Refused(n) => Wrote::Refused(n),
+    let number = refusal_of(ctx, shape);
+    if number != 0 {
+        return Wrote::Refused(number);
     }
-}
-
-// The shape in which the profile lets an instruction be written, or refusal 6, 7 or 8: what a word, a log record and a line of text
-// have in common.
-pub fn shape_of(ctx: Profile, inst: IllegalInst) -> Shaped
-    ensures { λ r. ⌜ shapeIn r ≡ shapeFor ctx inst ⌝ }
-{
-    checked(ctx, own_shape(inst))
+    Wrote::Word(word_of(shape))
 }
 
 // An instruction's shape, whatever its numbers are.
@@ -93,45 +87,44 @@ fn fence_with(fence: Fence, rs1: Register, rs2: Register) -> Shape
     }
 }
 
-// A shape that may hold any numbers, if the profile lets it be written: else 6, 7 or 8.
-fn checked(ctx: Profile, shape: Shape) -> Shaped
-    ensures { λ r. ⌜ shapeIn r ≡ checkedDef ctx shape ⌝ }
+// Why the profile does not let a shape that may hold any numbers be written, 0 where it does: what a word, a log record and a line of
+// text have in common.
+pub fn refusal_of(ctx: Profile, shape: Shape) -> u8
+    ensures { λ r. ⌜ r ≡ numberIn (checkedDef ctx shape) ⌝ }
 {
     match shape {
-        Shape::Wfi => Shaped::Is(shape),
-        Shape::Mret => Shaped::Is(shape),
-        Shape::Sret => Shaped::Is(shape),
-        Shape::Fence { rs1, rs2, .. } => {
-            if 31 < rs1 {
-                return Shaped::Refused(refusals::REGISTER);
-            }
-            if 31 < rs2 {
-                return Shaped::Refused(refusals::REGISTER);
-            }
-            Shaped::Is(shape)
-        }
+        Shape::Wfi => 0,
+        Shape::Mret => 0,
+        Shape::Sret => 0,
+        Shape::Fence { rs1, rs2, .. } => if registers::are_valid(rs1, rs2) {
+            0
+        } else {
+            refusals::REGISTER
+        },
         Shape::Access {
             op,
             csr,
             rd,
             src,
             ..
-        } => {
-            if 31 < rd {
-                return Shaped::Refused(refusals::REGISTER);
-            }
-            if 31 < src {
-                return Shaped::Refused(refusals::REGISTER);
-            }
-            if !csrs::is_available(ctx, csr) {
-                return Shaped::Refused(refusals::CSR);
-            }
-            if system_decoder::is_barred(csr, system_decoder::always_writes(op), src) {
-                return Shaped::Refused(refusals::READ_ONLY);
-            }
-            Shaped::Is(shape)
-        }
+        } => access_refusal(ctx, op, csr, rd, src),
     }
+}
+
+// The same of a CSR form: 6, 7, 8 in document 01's order.
+fn access_refusal(ctx: Profile, op: CsrOp, csr: usize, rd: usize, src: usize) -> u8
+    ensures { λ r. ⌜ ((imm : Bool) → r ≡ numberIn (checkedDef ctx (Shape.Access op imm csr rd src))) ⌝ }
+{
+    if !registers::are_valid(rd, src) {
+        return refusals::REGISTER;
+    }
+    if !csrs::is_available(ctx, csr) {
+        return refusals::CSR;
+    }
+    if system_decoder::is_barred(csr, system_decoder::always_writes(op), src) {
+        return refusals::READ_ONLY;
+    }
+    0
 }
 
 // The word of a shape whose numbers fit.

@@ -1,25 +1,23 @@
--- `system_encoder::encode_shape` meets its contract: each arm knows the shape, or why there is none. Assumes nothing.
-use mathlib.Core.Path.{_≡_, sym, ap, _∙_}
+-- `system_encoder::encode_shape` meets its contract: what is not refused is low, and has a word. Assumes nothing.
+use mathlib.Core.Path.{sym, ap, _∙_}
 use borrow.Author.Needs.{needs}
-use Rattle.forms.specs.Table.{form}
-use Rattle.system_decoder.specs.System.{shapeIn}
+use Rattle.forms.proofs.Table.{refused-with}
 use Rattle.system_encoder.specs.System.{checkedDef, writeShape}
-use Rattle.system_encoder.proofs.System.{checked-is}
+use Rattle.system_encoder.proofs.System.{not-refused}
 use Rattle.system_encoder.proofs.encode_shape.Statement.{statement}
 use Rattle.system_encoder.proofs.encode_shape.Tie as tie
-
-shape-is : (c : tie.After-low) → form (c .low .given .0 .0) ≡ checkedDef (c .before .before .before .args .ctx) (c .before .before .before .args .shape)
-shape-is c = ap shapeIn (sym (c .low .given .1)) ∙ c .before .before .checked .ensures
 
 pub encode-shape-spec : {M : Type 1} → statement M
 encode-shape-spec =
     tie.close
     (tie.spec
     (λ c κs. search needs)
-    (λ c. search needs)
+    (λ c.
+    let a = c .before .before .args in
+    ap writeShape (sym (refused-with (checkedDef (a .ctx) (a .shape)) (c .before .refusal-of .ensures) (c .if1 .taken))))
     (λ c κs.
-    let a = c .before .before .before .before .args in
-    checked-is (a .ctx) (a .shape) _ (sym (shape-is (c .before))) .1)
-    (λ c. search needs)
-    (λ c. c .word-of .ensures ∙ ap writeShape (shape-is (c .before .before)))
-    (λ c. ap writeShape (ap shapeIn (sym (c .before .n .given .1)) ∙ c .before .before .before .checked .ensures)))
+    let a = c .before .before .args in
+    not-refused (a .ctx) (a .shape) (sym (c .before .refusal-of .ensures) ∙ c .if1 .left) .1)
+    (λ c.
+    let a = c .before .before .before .args in
+    c .word-of .ensures ∙ ap writeShape (sym (not-refused (a .ctx) (a .shape) (sym (c .before .before .refusal-of .ensures) ∙ c .before .if1 .left) .0))))
