@@ -1,3 +1,4 @@
 pub mod Arms
 pub mod Laws
 pub mod Size
+pub mod Waits

@@ -1,11 +1,20 @@
 -- Which CSRs a profile makes available: document 01's table of gates, with the addresses of registers' `idxDef`. Where a
 -- register is does not depend on the profile.
+use mathlib.Core.Path.{_≡_}
 use mathlib.Core.Bool.{Bool, true, false}
 use mathlib.Core.List.{List, [], _∷_, _++_, map}
-use Prim.Native.Nat.{ℕ, _+_, _*_}
+use Prim.Native.Nat.{ℕ, _+_, _*_, _^_, _<_}
 use Rattle.registers.specs.declared.Csr.{Csr}
-use Rattle.registers.specs.declared.Csr.the-variants.{Mhartid, Mstatus, Misa, Mie, Mtvec, Mscratch, Mip, Mvendorid, Marchid, Mimpid, Pmpcfg, Pmpaddr, Mcycle, Minstret, Cycle, Time, Instret, Mhpmcounter, Mcountinhibit, Mhpmevent, Mcounteren, Menvcfg, Mseccfg, Mconfigptr, Medeleg, Mideleg, Mtinst, Mtval2, Tselect, Tdata1, Tdata2, Tdata3, Mcontext, Dcsr, Dpc, Dscratch0, Dscratch1, Mepc, Mcause, Mtval, Sstatus, Sie, Stvec, Scounteren, Senvcfg, Sscratch, Sepc, Scause, Stval, Sip, Satp, Scontext, Stimecmp, Hstatus, Hedeleg, Hideleg, Hvip, Hip, Hie, Hgeip, Hgeie, Henvcfg, Hcounteren, Htimedelta, Htval, Htinst, Hgatp, Vsstatus, Vsie, Vstvec, Vsscratch, Vsepc, Vscause, Vstval, Vsip, Vsatp, Vstart, Vxsat, Vxrm, Vcsr, Vl, Vtype, Vlenb, Seed, Custom}
+use Rattle.registers.specs.declared.Csr.the-variants.{Mhartid, Mstatus, Misa, Mie, Mtvec, Mscratch, Mip, Mvendorid, Marchid, Mimpid, Pmpcfg, Pmpaddr}
+use Rattle.registers.specs.declared.Csr.the-variants.{Mcycle, Minstret, Cycle, Time, Instret, Mhpmcounter, Mcountinhibit, Mhpmevent, Mcounteren}
+use Rattle.registers.specs.declared.Csr.the-variants.{Menvcfg, Mseccfg, Mconfigptr, Medeleg, Mideleg, Mtinst, Mtval2, Tselect, Tdata1, Tdata2, Tdata3}
+use Rattle.registers.specs.declared.Csr.the-variants.{Mcontext, Dcsr, Dpc, Dscratch0, Dscratch1, Mepc, Mcause, Mtval, Sstatus, Sie, Stvec, Scounteren}
+use Rattle.registers.specs.declared.Csr.the-variants.{Senvcfg, Sscratch, Sepc, Scause, Stval, Sip, Satp, Scontext, Stimecmp, Hstatus, Hedeleg}
+use Rattle.registers.specs.declared.Csr.the-variants.{Hideleg, Hvip, Hip, Hie, Hgeip, Hgeie, Henvcfg, Hcounteren, Htimedelta, Htval, Htinst, Hgatp}
+use Rattle.registers.specs.declared.Csr.the-variants.{Vsstatus, Vsie, Vstvec, Vsscratch, Vsepc, Vscause, Vstval, Vsip, Vsatp, Vstart, Vxsat, Vxrm}
+use Rattle.registers.specs.declared.Csr.the-variants.{Vcsr, Vl, Vtype, Vlenb, Seed, Custom}
 use Rattle.registers.specs.declared.Idx.{Idx}
+use Rattle.registers.specs.declared.Idx.the-variants.{At, Refused}
 use Rattle.registers.specs.Find.{Spot, is, nothing, find, downFrom, join}
 use Rattle.registers.specs.Address.{idxDef}
 use Rattle.profiles.specs.declared.Profile.{Profile}
@@ -84,11 +93,6 @@ rowIdx r = idxDef (r .csr)
 unfoldable pub spotDef : ℕ → Spot Row
 spotDef a = find rowIdx a rows
 
--- as the code's look-up answers it
-abbrev pub slotOf : Spot Row → Slot
-slotOf (is r) = Holds (r .gate) (r .csr)
-slotOf nothing = Empty
-
 -- the answer there, under a profile
 abbrev pub gatedDef : Bool → Csr → CsrLookup
 gatedDef true c = Found c
@@ -107,6 +111,24 @@ isFound Missing = false
 
 unfoldable pub available : Profile → ℕ → Bool
 available p a = isFound (decodeCsrDef p a)
+
+-- ---- the parts
+-- the gate of the row at a register's address; where there is no row, a bit that no mask has
+abbrev pub gateIn : Spot Row → Gate
+gateIn (is r) = r .gate
+gateIn nothing = MaskBit 64
+
+abbrev pub gateDef : Idx → Gate
+gateDef (At a) = gateIn (spotDef a)
+gateDef (Refused n) = MaskBit 64
+
+-- what the look-up answers for an address: every profile finds by it what the definition says
+abbrev pub slotAnswer : Profile → Slot → CsrLookup
+slotAnswer p (Holds g c) = gatedDef (allowsDef p g) c
+slotAnswer p Empty = Missing
+
+abbrev pub SlotAt : ℕ → Slot → Type 0
+SlotAt a s = (p : Profile) → p .custom < 2 ^ 64 → slotAnswer p s ≡ decodeCsrDef p a
 
 -- the registers that have an address and no row
 abbrev pub nevers : List Csr

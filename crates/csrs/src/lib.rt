@@ -1,6 +1,9 @@
 // Which CSRs each profile makes available: `decode_csr` of Miralis's src/decoder.rs, as a look-up and a gate.
 ghost use mathlib.Core.Path.{_≡_};
-ghost use Rattle.csrs.specs.Gates.{allowsDef, spotDef, slotOf, decodeCsrDef, available};
+ghost use Prim.Native.Nat.{ℕ};
+ghost use Rattle.registers.specs.declared.Idx.the-variants.{At};
+ghost use Rattle.registers.specs.Address.{idxDef};
+ghost use Rattle.csrs.specs.Gates.{allowsDef, gateDef, SlotAt, decodeCsrDef, available};
 ghost use Rattle.csrs.specs.Count.{countDef};
 use profiles::Profile;
 use registers::Csr;
@@ -38,7 +41,43 @@ fn allows(ctx: Profile, gate: Gate) -> bool
     }
 }
 
-// What is at a CSR address, whatever the profile: a register behind its gate, or nothing.
+// What a register that has an address waits for, in the order of the table of specs/Gates. Every register is named: one that is
+// left out is an error, and never an open gate.
+fn gate_of(register: Csr) -> Gate
+    requires { ⌜ ((a : ℕ) × (idxDef register ≡ At a)) ⌝ }
+    ensures { λ r. ⌜ r ≡ gateDef (idxDef register) ⌝ }
+{
+    match register {
+        Csr::Mstatus | Csr::Misa | Csr::Mie | Csr::Mtvec | Csr::Mscratch | Csr::Mip => Gate::Always,
+        Csr::Mhartid | Csr::Mvendorid | Csr::Marchid | Csr::Mimpid => Gate::Always,
+        Csr::Pmpcfg(_) | Csr::Pmpaddr(_) => Gate::Always,
+        Csr::Mcountinhibit | Csr::Mcounteren | Csr::Menvcfg | Csr::Mconfigptr => Gate::Always,
+        Csr::Tselect | Csr::Mcause | Csr::Mepc | Csr::Mtval => Gate::Always,
+        Csr::Mcycle | Csr::Minstret | Csr::Cycle | Csr::Time | Csr::Instret => Gate::Zicntr,
+        Csr::Mhpmcounter(_) | Csr::Mhpmevent(_) => Gate::Zihpm,
+        Csr::Mseccfg => Gate::Tee,
+        Csr::Medeleg | Csr::Mideleg => Gate::Smode,
+        Csr::Sstatus | Csr::Sie | Csr::Stvec | Csr::Scounteren | Csr::Senvcfg => Gate::Smode,
+        Csr::Sscratch | Csr::Sepc | Csr::Scause | Csr::Stval | Csr::Sip => Gate::Smode,
+        Csr::Satp | Csr::Scontext => Gate::Smode,
+        Csr::Stimecmp => Gate::Sstc,
+        Csr::Mtinst | Csr::Mtval2 => Gate::Hmode,
+        Csr::Hstatus | Csr::Hedeleg | Csr::Hideleg | Csr::Hvip | Csr::Hip => Gate::Hmode,
+        Csr::Hie | Csr::Hgeip | Csr::Hgeie | Csr::Henvcfg | Csr::Hcounteren => Gate::Hmode,
+        Csr::Htimedelta | Csr::Htval | Csr::Htinst | Csr::Hgatp => Gate::Hmode,
+        Csr::Vsstatus | Csr::Vsie | Csr::Vstvec | Csr::Vsscratch | Csr::Vsepc => Gate::Hmode,
+        Csr::Vscause | Csr::Vstval | Csr::Vsip | Csr::Vsatp => Gate::Hmode,
+        Csr::Vstart | Csr::Vxsat | Csr::Vxrm | Csr::Vcsr => Gate::Vector,
+        Csr::Vl | Csr::Vtype | Csr::Vlenb => Gate::Vector,
+        Csr::Seed => Gate::Crypto,
+        Csr::Custom(addr) => Gate::MaskBit(addr - address::CUSTOM0),
+        // No profile makes these available: a mask has no bit 64
+        Csr::Tdata1 | Csr::Tdata2 | Csr::Tdata3 | Csr::Mcontext => Gate::MaskBit(64),
+        Csr::Dcsr | Csr::Dpc | Csr::Dscratch0 | Csr::Dscratch1 => Gate::MaskBit(64),
+    }
+}
+
+// What stands at a CSR address, whatever the profile: a register, behind its gate.
 enum Slot {
     Holds(Gate, Csr),
     Empty,
@@ -46,10 +85,8 @@ enum Slot {
 
 // The look-up by address, which may be any number. It takes no profile, so that flags are only read where a gate asks.
 fn slot_at(csr: usize) -> Slot
-    ensures { λ r. ⌜ r ≡ slotOf (spotDef csr) ⌝ }
+    ensures { λ r. ⌜ SlotAt csr r ⌝ }
 {
-    // What the register waits for, where its arm says nothing else
-    let mut gate = Gate::Always;
     let found = match csr {
         address::MSTATUS => Csr::Mstatus,
         address::MISA => Csr::Misa,
@@ -70,59 +107,25 @@ fn slot_at(csr: usize) -> Slot
             }
         }
         address::PMPADDR0..=address::PMPADDR63 => Csr::Pmpaddr(csr - address::PMPADDR0),
-        address::MCYCLE => {
-            gate = Gate::Zicntr;
-            Csr::Mcycle
-        }
-        address::MINSTRET => {
-            gate = Gate::Zicntr;
-            Csr::Minstret
-        }
-        address::CYCLE => {
-            gate = Gate::Zicntr;
-            Csr::Cycle
-        }
-        address::TIME => {
-            gate = Gate::Zicntr;
-            Csr::Time
-        }
-        address::INSTRET => {
-            gate = Gate::Zicntr;
-            Csr::Instret
-        }
+        address::MCYCLE => Csr::Mcycle,
+        address::MINSTRET => Csr::Minstret,
+        address::CYCLE => Csr::Cycle,
+        address::TIME => Csr::Time,
+        address::INSTRET => Csr::Instret,
         // Mhpm counters start at 3 and end at 31: we shift them by 3 to start at 0 and end at 28
-        address::MHPMCOUNTER3..=address::MHPMCOUNTER31 => {
-            gate = Gate::Zihpm;
-            Csr::Mhpmcounter(csr - address::MHPMCOUNTER3)
-        }
+        address::MHPMCOUNTER3..=address::MHPMCOUNTER31 => Csr::Mhpmcounter(
+            csr - address::MHPMCOUNTER3,
+        ),
         address::MCOUNTINHIBIT => Csr::Mcountinhibit,
-        address::MHPMEVENT3..=address::MHPMEVENT31 => {
-            gate = Gate::Zihpm;
-            Csr::Mhpmevent(csr - address::MHPMEVENT3)
-        }
+        address::MHPMEVENT3..=address::MHPMEVENT31 => Csr::Mhpmevent(csr - address::MHPMEVENT3),
         address::MCOUNTEREN => Csr::Mcounteren,
         address::MENVCFG => Csr::Menvcfg,
-        address::MSECCFG => {
-            gate = Gate::Tee;
-            Csr::Mseccfg
-        }
+        address::MSECCFG => Csr::Mseccfg,
         address::MCONFIGPTR => Csr::Mconfigptr,
-        address::MEDELEG => {
-            gate = Gate::Smode;
-            Csr::Medeleg
-        }
-        address::MIDELEG => {
-            gate = Gate::Smode;
-            Csr::Mideleg
-        }
-        address::MTINST => {
-            gate = Gate::Hmode;
-            Csr::Mtinst
-        }
-        address::MTVAL2 => {
-            gate = Gate::Hmode;
-            Csr::Mtval2
-        }
+        address::MEDELEG => Csr::Medeleg,
+        address::MIDELEG => Csr::Mideleg,
+        address::MTINST => Csr::Mtinst,
+        address::MTVAL2 => Csr::Mtval2,
         address::TSELECT => Csr::Tselect,
         // The Rust reads these eight addresses, and answers None under `if true`.
         address::TDATA1 => return Slot::Empty,
@@ -134,196 +137,61 @@ fn slot_at(csr: usize) -> Slot
         address::DSCRATCH0 => return Slot::Empty,
         address::DSCRATCH1 => return Slot::Empty,
         // Custom CSRs: mask bit k makes address 0x7C0 + k available
-        address::CUSTOM0..=address::CUSTOM63 => {
-            gate = Gate::MaskBit(csr - address::CUSTOM0);
-            Csr::Custom(csr)
-        }
+        address::CUSTOM0..=address::CUSTOM63 => Csr::Custom(csr),
         address::MCAUSE => Csr::Mcause,
         address::MEPC => Csr::Mepc,
         address::MTVAL => Csr::Mtval,
         // Supervisor-level CSRs
-        address::SSTATUS => {
-            gate = Gate::Smode;
-            Csr::Sstatus
-        }
-        address::SIE => {
-            gate = Gate::Smode;
-            Csr::Sie
-        }
-        address::STVEC => {
-            gate = Gate::Smode;
-            Csr::Stvec
-        }
-        address::SCOUNTEREN => {
-            gate = Gate::Smode;
-            Csr::Scounteren
-        }
-        address::SENVCFG => {
-            gate = Gate::Smode;
-            Csr::Senvcfg
-        }
-        address::SSCRATCH => {
-            gate = Gate::Smode;
-            Csr::Sscratch
-        }
-        address::SEPC => {
-            gate = Gate::Smode;
-            Csr::Sepc
-        }
-        address::SCAUSE => {
-            gate = Gate::Smode;
-            Csr::Scause
-        }
-        address::STVAL => {
-            gate = Gate::Smode;
-            Csr::Stval
-        }
-        address::SIP => {
-            gate = Gate::Smode;
-            Csr::Sip
-        }
-        address::STIMECMP => {
-            gate = Gate::Sstc;
-            Csr::Stimecmp
-        }
-        address::SATP => {
-            gate = Gate::Smode;
-            Csr::Satp
-        }
-        address::SCONTEXT => {
-            gate = Gate::Smode;
-            Csr::Scontext
-        }
+        address::SSTATUS => Csr::Sstatus,
+        address::SIE => Csr::Sie,
+        address::STVEC => Csr::Stvec,
+        address::SCOUNTEREN => Csr::Scounteren,
+        address::SENVCFG => Csr::Senvcfg,
+        address::SSCRATCH => Csr::Sscratch,
+        address::SEPC => Csr::Sepc,
+        address::SCAUSE => Csr::Scause,
+        address::STVAL => Csr::Stval,
+        address::SIP => Csr::Sip,
+        address::STIMECMP => Csr::Stimecmp,
+        address::SATP => Csr::Satp,
+        address::SCONTEXT => Csr::Scontext,
         // Hypervisor and Virtual Supervisor CSRs
-        address::HSTATUS => {
-            gate = Gate::Hmode;
-            Csr::Hstatus
-        }
-        address::HEDELEG => {
-            gate = Gate::Hmode;
-            Csr::Hedeleg
-        }
-        address::HIDELEG => {
-            gate = Gate::Hmode;
-            Csr::Hideleg
-        }
-        address::HVIP => {
-            gate = Gate::Hmode;
-            Csr::Hvip
-        }
-        address::HIP => {
-            gate = Gate::Hmode;
-            Csr::Hip
-        }
-        address::HIE => {
-            gate = Gate::Hmode;
-            Csr::Hie
-        }
-        address::HGEIP => {
-            gate = Gate::Hmode;
-            Csr::Hgeip
-        }
-        address::HGEIE => {
-            gate = Gate::Hmode;
-            Csr::Hgeie
-        }
-        address::HENVCFG => {
-            gate = Gate::Hmode;
-            Csr::Henvcfg
-        }
-        address::HCOUNTEREN => {
-            gate = Gate::Hmode;
-            Csr::Hcounteren
-        }
-        address::HTIMEDELTA => {
-            gate = Gate::Hmode;
-            Csr::Htimedelta
-        }
-        address::HTVAL => {
-            gate = Gate::Hmode;
-            Csr::Htval
-        }
-        address::HTINST => {
-            gate = Gate::Hmode;
-            Csr::Htinst
-        }
-        address::HGATP => {
-            gate = Gate::Hmode;
-            Csr::Hgatp
-        }
-        address::VSSTATUS => {
-            gate = Gate::Hmode;
-            Csr::Vsstatus
-        }
-        address::VSIE => {
-            gate = Gate::Hmode;
-            Csr::Vsie
-        }
-        address::VSTVEC => {
-            gate = Gate::Hmode;
-            Csr::Vstvec
-        }
-        address::VSSCRATCH => {
-            gate = Gate::Hmode;
-            Csr::Vsscratch
-        }
-        address::VSEPC => {
-            gate = Gate::Hmode;
-            Csr::Vsepc
-        }
-        address::VSCAUSE => {
-            gate = Gate::Hmode;
-            Csr::Vscause
-        }
-        address::VSTVAL => {
-            gate = Gate::Hmode;
-            Csr::Vstval
-        }
-        address::VSIP => {
-            gate = Gate::Hmode;
-            Csr::Vsip
-        }
-        address::VSATP => {
-            gate = Gate::Hmode;
-            Csr::Vsatp
-        }
+        address::HSTATUS => Csr::Hstatus,
+        address::HEDELEG => Csr::Hedeleg,
+        address::HIDELEG => Csr::Hideleg,
+        address::HVIP => Csr::Hvip,
+        address::HIP => Csr::Hip,
+        address::HIE => Csr::Hie,
+        address::HGEIP => Csr::Hgeip,
+        address::HGEIE => Csr::Hgeie,
+        address::HENVCFG => Csr::Henvcfg,
+        address::HCOUNTEREN => Csr::Hcounteren,
+        address::HTIMEDELTA => Csr::Htimedelta,
+        address::HTVAL => Csr::Htval,
+        address::HTINST => Csr::Htinst,
+        address::HGATP => Csr::Hgatp,
+        address::VSSTATUS => Csr::Vsstatus,
+        address::VSIE => Csr::Vsie,
+        address::VSTVEC => Csr::Vstvec,
+        address::VSSCRATCH => Csr::Vsscratch,
+        address::VSEPC => Csr::Vsepc,
+        address::VSCAUSE => Csr::Vscause,
+        address::VSTVAL => Csr::Vstval,
+        address::VSIP => Csr::Vsip,
+        address::VSATP => Csr::Vsatp,
         // Vector extension CSRs
-        address::VSTART => {
-            gate = Gate::Vector;
-            Csr::Vstart
-        }
-        address::VXSAT => {
-            gate = Gate::Vector;
-            Csr::Vxsat
-        }
-        address::VXRM => {
-            gate = Gate::Vector;
-            Csr::Vxrm
-        }
-        address::VCSR => {
-            gate = Gate::Vector;
-            Csr::Vcsr
-        }
-        address::VL => {
-            gate = Gate::Vector;
-            Csr::Vl
-        }
-        address::VTYPE => {
-            gate = Gate::Vector;
-            Csr::Vtype
-        }
-        address::VLENB => {
-            gate = Gate::Vector;
-            Csr::Vlenb
-        }
+        address::VSTART => Csr::Vstart,
+        address::VXSAT => Csr::Vxsat,
+        address::VXRM => Csr::Vxrm,
+        address::VCSR => Csr::Vcsr,
+        address::VL => Csr::Vl,
+        address::VTYPE => Csr::Vtype,
+        address::VLENB => Csr::Vlenb,
         // Crypto extension CSRs
-        address::SEED => {
-            gate = Gate::Crypto;
-            Csr::Seed
-        }
+        address::SEED => Csr::Seed,
         _ => return Slot::Empty,
     };
-    Slot::Holds(gate, found)
+    Slot::Holds(gate_of(found), found)
 }
 
 // What is at a CSR address under a profile.
