@@ -25,13 +25,13 @@ use Rattle.csrs.specs.Gates.{Line, line, lines, Row, under, rowsOf, cust
 use Rattle.csrs.proofs.Arms.{rows-distinct}
 use Rattle.csrs.proofs.Laws.{there, there-is, no-row}
 
--- of the registers of these variants each that has an address passes a test, if each of the list does
-unfoldable pub of : List ℕ → (Csr → Bool) → Csr → Bool
-of ks f c = not (hasKey ks (tagOf the-type c)) || f c
+-- a register passes the test f, if it is of one of the variants ks; what holds of each of the list holds of every one that has an address
+unfoldable pub if-among : List ℕ → (Csr → Bool) → Csr → Bool
+if-among ks f c = not (hasKey ks (tagOf the-type c)) || f c
 
-tagged : (ks : List ℕ) (f : Csr → Bool) → T (all (of ks f) registers) → (c : Csr) {a : ℕ} → idxDef c ≡ At a → OneOf ks (tagOf the-type c) → T (f c)
-unfolding of
-tagged ks f t c {a} e o = step (hasKey ks (tagOf the-type c)) refl (every (of ks f) t c a e)
+tagged : (ks : List ℕ) (f : Csr → Bool) → T (all (if-among ks f) registers) → (c : Csr) {a : ℕ} → idxDef c ≡ At a → OneOf ks (tagOf the-type c) → T (f c)
+unfolding if-among
+tagged ks f t c {a} e o = step (hasKey ks (tagOf the-type c)) refl (every (if-among ks f) t c a e)
   where
     step : (b : Bool) → hasKey ks (tagOf the-type c) ≡ b → T (not b || f c) → T (f c)
     step true q u = u
@@ -56,7 +56,7 @@ lined (suc i) (l ∷ ls) m = right (rowsOf l) (lined i ls m)
 unfoldable pub in-line : ℕ → Csr → Bool
 in-line i c = keeps (λ b. there (find idxDef b (join (familiesAt i lines)))) (idxDef c)
 
-pub waits : (i : ℕ) (ks : List ℕ) → T (all (of ks (in-line i)) registers) → (c : Csr) {a : ℕ} → idxDef c ≡ At a → OneOf ks (tagOf the-type c) → gateAt i lines ≡ gateDef (idxDef c)
+pub waits : (i : ℕ) (ks : List ℕ) → T (all (if-among ks (in-line i)) registers) → (c : Csr) {a : ℕ} → idxDef c ≡ At a → OneOf ks (tagOf the-type c) → gateAt i lines ≡ gateDef (idxDef c)
 unfolding in-line spotDef
 waits i ks t c {a} e o =
     let cs = join (familiesAt i lines) in
@@ -65,7 +65,7 @@ waits i ks t c {a} e o =
     sym (ap gateDef e ∙ ap gateIn (hit rowIdx a rows-distinct (left (map customRow (downFrom 64)) (lined i lines m)) e))
 
 -- ---- a register without a row waits for a bit that no mask has
-pub shut : (ks : List ℕ) → T (all (of ks no-row) registers) → (c : Csr) {a : ℕ} → idxDef c ≡ At a → OneOf ks (tagOf the-type c) → MaskBit 64 ≡ gateDef (idxDef c)
+pub shut : (ks : List ℕ) → T (all (if-among ks no-row) registers) → (c : Csr) {a : ℕ} → idxDef c ≡ At a → OneOf ks (tagOf the-type c) → MaskBit 64 ≡ gateDef (idxDef c)
 unfolding no-row
 shut ks t c {a} e o = step (spotDef a) (kept (λ b. not (there (spotDef b))) a (idxDef c) e (tagged ks no-row t c e o)) ∙ sym (ap gateDef e)
   where

@@ -77,13 +77,14 @@ fn gate_of(register: Csr) -> Gate
     }
 }
 
-// What stands at a CSR address, whatever the profile: a register, behind its gate.
+// What a CSR address has, whatever the profile: a register, behind its gate.
 enum Slot {
     Holds(Gate, Csr),
     Empty,
 }
 
-// The look-up by address, which may be any number. It takes no profile, so that flags are only read where a gate asks.
+// The look-up by address, which may be any number. It takes no profile, so that flags are only read where a gate asks; and
+// `gate_of` has no other caller, so that the compiler merges it into the arms.
 fn slot_at(csr: usize) -> Slot
     ensures { λ r. ⌜ SlotAt csr r ⌝ }
 {
@@ -194,7 +195,7 @@ fn slot_at(csr: usize) -> Slot
     Slot::Holds(gate_of(found), found)
 }
 
-// What is at a CSR address under a profile.
+// What a CSR address has under a profile.
 pub enum CsrLookup {
     Found(Csr),
     Missing,

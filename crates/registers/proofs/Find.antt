@@ -69,7 +69,7 @@ unfolding all
 all-at f t (first {x = x} {xs = xs}) = both (f x) (all f xs) t .0
 all-at f t (later {y = y} {xs = xs} m) = all-at f (both (f y) (all f xs) t .1) m
 
--- ---- a rule that each address keeps, and lists in which no address stands twice
+-- ---- a rule that each address keeps, and lists in which no address comes twice
 unfoldable pub keeps : (ℕ → Bool) → Idx → Bool
 keeps f (At b) = f b
 keeps f (Refused n) = false

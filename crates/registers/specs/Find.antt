@@ -1,4 +1,4 @@
--- Looking up an address in a list of things that have addresses.
+-- Looking for an address in a list of things that have addresses.
 use mathlib.Core.Bool.{Bool, true, false}
 use mathlib.Core.List.{List, [], _∷_, _++_}
 use Prim.Native.Nat.{ℕ, zero, suc}
@@ -6,7 +6,7 @@ use lib.Dec.{eqb}
 use Rattle.registers.specs.declared.Idx.{Idx}
 use Rattle.registers.specs.declared.Idx.the-variants.{At, Refused}
 
--- what is at an address
+-- what is found at an address
 pub data Spot (X : Type 0) : Type 0 where
   is : X → Spot X
   nothing : Spot X
