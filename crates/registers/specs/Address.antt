@@ -4,7 +4,14 @@ use mathlib.Core.List.{List, [], _∷_, map}
 use Prim.Native.Nat.{ℕ, _+_, _*_, _%_}
 use lib.Dec.{eqb, leb}
 use Rattle.registers.specs.declared.Csr.{Csr}
-use Rattle.registers.specs.declared.Csr.the-variants.{Mhartid, Mstatus, Misa, Mie, Mtvec, Mscratch, Mip, Mvendorid, Marchid, Mimpid, Pmpcfg, Pmpaddr, Mcycle, Minstret, Cycle, Time, Instret, Mhpmcounter, Mcountinhibit, Mhpmevent, Mcounteren, Menvcfg, Mseccfg, Mconfigptr, Medeleg, Mideleg, Mtinst, Mtval2, Tselect, Tdata1, Tdata2, Tdata3, Mcontext, Dcsr, Dpc, Dscratch0, Dscratch1, Mepc, Mcause, Mtval, Sstatus, Sie, Stvec, Scounteren, Senvcfg, Sscratch, Sepc, Scause, Stval, Sip, Satp, Scontext, Stimecmp, Hstatus, Hedeleg, Hideleg, Hvip, Hip, Hie, Hgeip, Hgeie, Henvcfg, Hcounteren, Htimedelta, Htval, Htinst, Hgatp, Vsstatus, Vsie, Vstvec, Vsscratch, Vsepc, Vscause, Vstval, Vsip, Vsatp, Vstart, Vxsat, Vxrm, Vcsr, Vl, Vtype, Vlenb, Seed, Custom}
+use Rattle.registers.specs.declared.Csr.the-variants.{Mhartid, Mstatus, Misa, Mie, Mtvec, Mscratch, Mip, Mvendorid, Marchid, Mimpid, Pmpcfg}
+use Rattle.registers.specs.declared.Csr.the-variants.{Pmpaddr, Mcycle, Minstret, Cycle, Time, Instret, Mhpmcounter, Mcountinhibit, Mhpmevent}
+use Rattle.registers.specs.declared.Csr.the-variants.{Mcounteren, Menvcfg, Mseccfg, Mconfigptr, Medeleg, Mideleg, Mtinst, Mtval2, Tselect}
+use Rattle.registers.specs.declared.Csr.the-variants.{Tdata1, Tdata2, Tdata3, Mcontext, Dcsr, Dpc, Dscratch0, Dscratch1, Mepc, Mcause, Mtval}
+use Rattle.registers.specs.declared.Csr.the-variants.{Sstatus, Sie, Stvec, Scounteren, Senvcfg, Sscratch, Sepc, Scause, Stval, Sip, Satp}
+use Rattle.registers.specs.declared.Csr.the-variants.{Scontext, Stimecmp, Hstatus, Hedeleg, Hideleg, Hvip, Hip, Hie, Hgeip, Hgeie, Henvcfg}
+use Rattle.registers.specs.declared.Csr.the-variants.{Hcounteren, Htimedelta, Htval, Htinst, Hgatp, Vsstatus, Vsie, Vstvec, Vsscratch, Vsepc}
+use Rattle.registers.specs.declared.Csr.the-variants.{Vscause, Vstval, Vsip, Vsatp, Vstart, Vxsat, Vxrm, Vcsr, Vl, Vtype, Vlenb, Seed, Custom}
 use Rattle.registers.specs.declared.Idx.{Idx}
 use Rattle.registers.specs.declared.Idx.the-variants.{At, Refused}
 use Rattle.registers.specs.Find.{downFrom, join}
@@ -103,7 +110,17 @@ idxDef (Custom n) = atIf (leb 0x7C0 n && leb n 0x7FF) n
 
 -- the registers that have an address: those without a payload, and the five families
 abbrev pub singles : List Csr
-singles = Mhartid ∷ Mstatus ∷ Misa ∷ Mie ∷ Mtvec ∷ Mscratch ∷ Mip ∷ Mvendorid ∷ Marchid ∷ Mimpid ∷ Mcycle ∷ Minstret ∷ Cycle ∷ Time ∷ Instret ∷ Mcountinhibit ∷ Mcounteren ∷ Menvcfg ∷ Mseccfg ∷ Mconfigptr ∷ Medeleg ∷ Mideleg ∷ Mtinst ∷ Mtval2 ∷ Tselect ∷ Tdata1 ∷ Tdata2 ∷ Tdata3 ∷ Mcontext ∷ Dcsr ∷ Dpc ∷ Dscratch0 ∷ Dscratch1 ∷ Mepc ∷ Mcause ∷ Mtval ∷ Sstatus ∷ Sie ∷ Stvec ∷ Scounteren ∷ Senvcfg ∷ Sscratch ∷ Sepc ∷ Scause ∷ Stval ∷ Sip ∷ Satp ∷ Scontext ∷ Stimecmp ∷ Hstatus ∷ Hedeleg ∷ Hideleg ∷ Hvip ∷ Hip ∷ Hie ∷ Hgeip ∷ Hgeie ∷ Henvcfg ∷ Hcounteren ∷ Htimedelta ∷ Htval ∷ Htinst ∷ Hgatp ∷ Vsstatus ∷ Vsie ∷ Vstvec ∷ Vsscratch ∷ Vsepc ∷ Vscause ∷ Vstval ∷ Vsip ∷ Vsatp ∷ Vstart ∷ Vxsat ∷ Vxrm ∷ Vcsr ∷ Vl ∷ Vtype ∷ Vlenb ∷ Seed ∷ []
+singles =
+    Mhartid ∷ Mstatus ∷ Misa ∷ Mie ∷ Mtvec ∷ Mscratch ∷ Mip ∷ Mvendorid ∷ Marchid ∷ Mimpid
+    ∷ Mcycle ∷ Minstret ∷ Cycle ∷ Time ∷ Instret ∷ Mcountinhibit ∷ Mcounteren ∷ Menvcfg ∷ Mseccfg ∷ Mconfigptr
+    ∷ Medeleg ∷ Mideleg ∷ Mtinst ∷ Mtval2
+    ∷ Tselect ∷ Tdata1 ∷ Tdata2 ∷ Tdata3 ∷ Mcontext ∷ Dcsr ∷ Dpc ∷ Dscratch0 ∷ Dscratch1
+    ∷ Mepc ∷ Mcause ∷ Mtval
+    ∷ Sstatus ∷ Sie ∷ Stvec ∷ Scounteren ∷ Senvcfg ∷ Sscratch ∷ Sepc ∷ Scause ∷ Stval ∷ Sip ∷ Satp ∷ Scontext ∷ Stimecmp
+    ∷ Hstatus ∷ Hedeleg ∷ Hideleg ∷ Hvip ∷ Hip ∷ Hie ∷ Hgeip ∷ Hgeie ∷ Henvcfg ∷ Hcounteren ∷ Htimedelta ∷ Htval ∷ Htinst ∷ Hgatp
+    ∷ Vsstatus ∷ Vsie ∷ Vstvec ∷ Vsscratch ∷ Vsepc ∷ Vscause ∷ Vstval ∷ Vsip ∷ Vsatp
+    ∷ Vstart ∷ Vxsat ∷ Vxrm ∷ Vcsr ∷ Vl ∷ Vtype ∷ Vlenb ∷ Seed
+    ∷ []
 
 abbrev pub families : List (List Csr)
 families =

@@ -19,7 +19,9 @@ calculate-addr-spec =
     (λ c κs. search needs)
     (λ c.
     let s = c .before .before .before .before in
-    taken-apart (λ (z : ℤ). (s .before .args .self-value + twos (2 ^ 63) z) % 2 ^ 64) (s .before .args .imm) (s .before .fits .imm) (s .sign-of .ensures) (c .before .before .n .given .1) (c .wrapping-add-usize .ensures))
+    taken-apart (λ (z : ℤ). (s .before .args .self-value + twos (2 ^ 63) z) % 2 ^ 64) (s .before .args .imm) (s .before .fits .imm)
+    (s .sign-of .ensures) (c .before .before .n .given .1) (c .wrapping-add-usize .ensures))
     (λ c.
     let s = c .before .before .before .before in
-    taken-apart (λ (z : ℤ). (s .before .args .self-value + twos (2 ^ 63) z) % 2 ^ 64) (s .before .args .imm) (s .before .fits .imm) (s .sign-of .ensures) (c .before .before .m .given .1) (c .wrapping-add-usize2 .ensures)))
+    taken-apart (λ (z : ℤ). (s .before .args .self-value + twos (2 ^ 63) z) % 2 ^ 64) (s .before .args .imm) (s .before .fits .imm)
+    (s .sign-of .ensures) (c .before .before .m .given .1) (c .wrapping-add-usize2 .ensures)))

@@ -192,5 +192,9 @@ idx-spec =
     (λ c. told (c .enum-told79 .given .1) refl)
     (λ c. told (c .enum-told80 .given .1) refl)
     (λ c. told (c .before .before .self5 .given .1) (simp (lt-leb 0x7C0 (c .before .before .self5 .given .0 .0) (c .if2 .taken))))
-    (λ c. told (c .before .before .before .self5 .given .1) (simp (le-leb 0x7C0 (c .before .before .before .self5 .given .0 .0) (c .before .if2 .left), le-leb (c .before .before .before .self5 .given .0 .0) 0x7FF (c .if3 .taken))))
-    (λ c. told (c .before .before .before .self5 .given .1) (simp (le-leb 0x7C0 (c .before .before .before .self5 .given .0 .0) (c .before .if2 .left), lt-leb (c .before .before .before .self5 .given .0 .0) 0x7FF (c .if3 .left)))))
+    (λ c.
+    let g = c .before .before .before .self5 .given in
+    told (g .1) (simp (le-leb 0x7C0 (g .0 .0) (c .before .if2 .left), le-leb (g .0 .0) 0x7FF (c .if3 .taken))))
+    (λ c.
+    let g = c .before .before .before .self5 .given in
+    told (g .1) (simp (le-leb 0x7C0 (g .0 .0) (c .before .if2 .left), lt-leb (g .0 .0) 0x7FF (c .if3 .left)))))
