@@ -1,33 +1,36 @@
-//! Compares every answer of Miralis's own decoder, its text unchanged, with the proved library: `compare [--quick] [--monitor]`.
+//! Compares every answer of Miralis's own decoder, its text unchanged, with the proved library: `compare [--quick | --all] [--monitor]`.
 //!
 //! - `--quick` thins everything out, to take less than a minute.
+//! - `--all` leaves no word of 32 bits out, in any reading, and no flag of a profile for the SYSTEM words.
 //! - `--monitor` puts rust/miralis/decoder.rs in the place of Miralis's src/decoder.rs.
 //!
 //! Where the Rust's answer is the wanted one (`compare::domain`), the two answers are the same. Everywhere else the library's is
 //! document 01's number, and docs/DIFFERENCES.md has a row that says what the Rust does and what the library does. Each instruction
 //! that the library reads it also writes back to the word that it was.
 //!
-//! The exit status is 1 where anything differs.
+//! The exit status is 1 where anything differs, and where there is no text of Miralis to compare with.
 
 #[cfg(not(have_miralis))]
 fn main() {
-    println!("compare: no Miralis text at hand (MIRALIS_SRC names its folder): nothing is compared");
+    eprintln!("compare: there was no Miralis text when this was built (MIRALIS_SRC names its folder), so nothing is compared");
+    std::process::exit(1);
 }
 
 #[cfg(have_miralis)]
 fn main() {
-    let (mut quick, mut monitor) = (false, false);
+    let (mut extent, mut monitor) = (run::Extent::Usual, false);
     for word in std::env::args().skip(1) {
         match &word[..] {
-            "--quick" => quick = true,
+            "--quick" => extent = run::Extent::Quick,
+            "--all" => extent = run::Extent::All,
             "--monitor" => monitor = true,
             _ => {
-                eprintln!("usage: compare [--quick] [--monitor]");
+                eprintln!("usage: compare [--quick | --all] [--monitor]");
                 std::process::exit(2);
             }
         }
     }
-    let same = if monitor { run::all::<run::StandIn>(quick) } else { run::all::<run::Original>(quick) };
+    let same = if monitor { run::run::<run::StandIn>(extent) } else { run::run::<run::Original>(extent) };
     std::process::exit(if same { 0 } else { 1 });
 }
 
@@ -36,6 +39,8 @@ mod run {
     use std::any::Any;
     use std::cell::Cell;
     use std::collections::BTreeMap;
+    use std::fmt::{Display, Formatter};
+    use std::io::{IsTerminal, Write};
     use std::panic::{AssertUnwindSafe, catch_unwind};
     use std::sync::Mutex;
     use std::sync::atomic::{AtomicU64, Ordering};
@@ -69,6 +74,14 @@ mod run {
 
     /// How many differing inputs of a part are printed.
     const SHOWN: usize = 10;
+
+    /// How much is compared.
+    #[derive(Clone, Copy, PartialEq, Eq)]
+    pub enum Extent {
+        Quick,
+        Usual,
+        All,
+    }
 
     /// What a part of the run found.
     #[derive(Default)]
@@ -106,6 +119,13 @@ mod run {
             self.differ += other.differ;
             self.first.extend(other.first);
             self.first.truncate(SHOWN);
+        }
+    }
+
+    impl Display for Found {
+        fn fmt(&self, f: &mut Formatter) -> std::fmt::Result {
+            let Found { compared, outside, written, differ, .. } = self;
+            write!(f, "{compared} compared, {outside} outside, {written} written back, {differ} differ")
         }
     }
 
@@ -171,9 +191,8 @@ mod run {
         }
     }
 
-    /// The whole run: its parts, how much of each is left out, and when it last said something.
+    /// The whole run: its parts, and when it last said something.
     struct Run {
-        thin: u64,
         threads: usize,
         began: Instant,
         said: Mutex<Instant>,
@@ -194,55 +213,118 @@ mod run {
                                 break;
                             }
                             work(&mut found, chunk);
-                            let mut said = self.said.lock().unwrap();
-                            if said.elapsed() > Duration::from_secs(5) {
-                                *said = Instant::now();
-                                println!("  .. {name}: {} of 100, {:.0} s", chunk * 100 / chunks, self.began.elapsed().as_secs_f64());
-                            }
+                            self.progress(name, chunk * 100 / chunks);
                         }
                         part.lock().unwrap().add(found);
                     });
                 }
             });
             let part = part.into_inner().unwrap();
-            let Found { compared, outside, written, differ, .. } = part;
-            println!(
-                "{name}: {compared} compared, {outside} outside, {written} written back, {differ} differ ({:.1} s)",
-                began.elapsed().as_secs_f64()
-            );
+            self.clear();
+            println!("{name}: {part} ({:.1} s)", began.elapsed().as_secs_f64());
             for line in &part.first {
                 println!("  {line}");
             }
-            *self.said.lock().unwrap() = Instant::now();
             self.all.add(part);
+        }
+
+        /// Says on standard error how far a part is: on a terminal one line that moves, elsewhere a line now and then.
+        fn progress(&self, name: &str, percent: u64) {
+            let terminal = std::io::stderr().is_terminal();
+            let mut said = self.said.lock().unwrap();
+            if said.elapsed() > Duration::from_secs(if terminal { 1 } else { 30 }) {
+                *said = Instant::now();
+                let (start, end) = if terminal { ("\r\x1b[K", "") } else { ("", "\n") };
+                eprint!("{start}.. {name}: {percent} of 100, {:.0} s in all{end}", self.began.elapsed().as_secs_f64());
+                let _ = std::io::stderr().flush();
+            }
+        }
+
+        /// Takes the line that moves off the terminal.
+        fn clear(&self) {
+            if std::io::stderr().is_terminal() {
+                eprint!("\r\x1b[K");
+            }
         }
     }
 
-    pub fn all<R: Side>(quick: bool) -> bool {
+    pub fn run<R: Side>(extent: Extent) -> bool {
         quiet();
-        let thin = if quick { 16 } else { 1 };
+        let quick = extent == Extent::Quick;
         let threads = std::thread::available_parallelism().map_or(1, |n| n.get().min(2));
-        let mut run = Run { thin, threads, began: Instant::now(), said: Mutex::new(Instant::now()), all: Found::default() };
-        println!("{} and the library{}", R::NAME, if quick { ", thinned out" } else { "" });
+        let mut run = Run { threads, began: Instant::now(), said: Mutex::new(Instant::now()), all: Found::default() };
+        let how = match extent {
+            Extent::Quick => ", thinned out",
+            Extent::Usual => "",
+            Extent::All => ", by exhaustion",
+        };
+        println!("{} and the library{how}", R::NAME);
         registers::<R>(&mut run, quick);
         arithmetic::<R>(&mut run, quick);
-        opcodes::<R>(&mut run);
-        halves::<R>(&mut run);
+        if extent == Extent::All {
+            all_words::<R>(&mut run);
+            all_flags::<R>(&mut run);
+            above::<R>(&mut run);
+        } else {
+            opcodes::<R>(&mut run, if quick { 16 } else { 1 });
+        }
+        halves::<R>(&mut run, if extent == Extent::All { 256 } else { 1 });
         random_words::<R>(&mut run, quick);
         classes::<R>(&mut run, quick);
-        let Found { compared, outside, written, differ, .. } = run.all;
-        println!(
-            "{} and the library: {compared} compared, {outside} outside, {written} written back, {differ} differ ({:.0} s)",
-            R::NAME,
-            run.began.elapsed().as_secs_f64()
-        );
-        differ == 0
+        println!("{} and the library: {} ({:.0} s)", R::NAME, run.all, run.began.elapsed().as_secs_f64());
+        run.all.differ == 0
+    }
+
+    /// How many words one piece of work has where the words are counted through.
+    const CHUNK: u64 = 1 << 18;
+
+    /// Every word of 32 bits in each reading, under the empty and the full profile.
+    fn all_words<R: Side>(run: &mut Run) {
+        for reading in Reading::ALL {
+            for profile in [Profile::EMPTY, Profile::FULL] {
+                run.part(&format!("all 2^32 words, {} reading, {profile}", reading.name()), (1 << 32) / CHUNK, |found, chunk| {
+                    let pair = Pair::<R>::new(profile);
+                    for raw in chunk * CHUNK..(chunk + 1) * CHUNK {
+                        pair.word(found, reading, raw);
+                    }
+                });
+            }
+        }
+    }
+
+    /// Every word of opcode 0x73 under all 256 flags, with no custom CSR, with all of them and with some.
+    fn all_flags<R: Side>(run: &mut Run) {
+        const EACH: u64 = (1 << 25) / CHUNK;
+        for custom in [0, u64::MAX, 0x0123_4567_89AB_CDEF] {
+            run.part(&format!("opcode 0x73, all flags, custom {custom:#X}"), 256 * EACH, |found, chunk| {
+                let (flags, chunk) = (chunk / EACH, chunk % EACH);
+                let pair = Pair::<R>::new(Profile { flags, custom });
+                for upper in chunk * CHUNK..(chunk + 1) * CHUNK {
+                    pair.word(found, System, upper << 7 | 0x73);
+                }
+            });
+        }
+    }
+
+    /// Every word of the three opcodes with each bit above bit 31 alone, and with rubbish there.
+    fn above<R: Side>(run: &mut Run) {
+        for (reading, opcode) in [(System, 0x73), (Load, 0x03), (Store, 0x23)] {
+            run.part(&format!("opcode {opcode:#04X}, bits above 31"), (1 << 25) / CHUNK, |found, chunk| {
+                let pair = Pair::<R>::new(Profile::FULL);
+                let mut random = Random::new(chunk << 16);
+                for upper in chunk * CHUNK..(chunk + 1) * CHUNK {
+                    let raw = upper << 7 | opcode;
+                    for bit in 32..64 {
+                        pair.word(found, reading, raw | 1 << bit);
+                    }
+                    pair.word(found, reading, raw | random.next() << 32);
+                }
+            });
+        }
     }
 
     /// All words of opcode 0x73 under each profile, and of the load and store opcodes.
-    fn opcodes<R: Side>(run: &mut Run) {
-        const CHUNK: u64 = 1 << 18;
-        let thin = run.thin;
+    fn opcodes<R: Side>(run: &mut Run, thin: u64) {
         let mut opcode = |name: &str, reading, opcode, profile| {
             run.part(name, (1 << 25) / CHUNK, |found, chunk| {
                 let pair = Pair::<R>::new(profile);
@@ -261,7 +343,7 @@ mod run {
     }
 
     /// All halfwords, alone and with rubbish above, in each reading. (With low two bits 11 the rubbish makes words of them.)
-    fn halves<R: Side>(run: &mut Run) {
+    fn halves<R: Side>(run: &mut Run, rounds: u64) {
         run.part("all halfwords, alone and with rubbish above", 256, |found, chunk| {
             let mut random = Random::new(chunk);
             for profile in [Profile::EMPTY, Profile::FULL] {
@@ -269,8 +351,10 @@ mod run {
                 for half in chunk * 256..(chunk + 1) * 256 {
                     for reading in Reading::ALL {
                         pair.word(found, reading, half);
-                        pair.word(found, reading, half | random.next() << 16);
-                        pair.word(found, reading, half | random.next() << 32);
+                        for _ in 0..rounds {
+                            pair.word(found, reading, half | random.next() << 16);
+                            pair.word(found, reading, half | random.next() << 32);
+                        }
                     }
                 }
             }
@@ -279,7 +363,7 @@ mod run {
 
     /// Random words of 64 bits, and words that are a few bits from an instruction, under random profiles.
     fn random_words<R: Side>(run: &mut Run, quick: bool) {
-        const CHUNK: u64 = 1 << 17;
+        const EACH: u64 = 1 << 17;
         /// Words to bend: the bits that are set in the second number are random.
         const SEEDS: [(u64, u64); 12] = [
             (0x1050_0073, 0),
@@ -299,7 +383,7 @@ mod run {
         run.part("random and bent words", chunks, |found, chunk| {
             let mut random = Random::new(chunk << 32);
             let mut pair = Pair::<R>::new(Profile::EMPTY);
-            for k in 0..CHUNK {
+            for k in 0..EACH {
                 if k % 1024 == 0 {
                     let (custom, some) = (random.next(), random.next());
                     let custom = [custom, custom & some, custom | some, 0][random.below(4) as usize];
