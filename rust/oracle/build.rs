@@ -1,8 +1,8 @@
 //! Makes the text of Miralis reachable for src/lib.rs, without a copy of it in the repository and without a changed line: whole
 //! files are modules by their path, and the few items that stand in a larger file are cut out of it as they are.
 //!
-//! The folder is MIRALIS_SRC, the one that has `src/decoder.rs` below it. Where it is not there, the library is built empty
-//! (no `have_miralis`), so that the rest of the workspace still builds.
+//! The folder is MIRALIS_SRC, the one that has `src/decoder.rs` below it, as a whole path. Where it is not there, the library is built
+//! empty (no `have_miralis`), so that the rest of the workspace still builds.
 
 use std::path::{Path, PathBuf};
 use std::{env, fs};
@@ -22,7 +22,9 @@ fn main() {
     println!("cargo::rerun-if-env-changed=MIRALIS_SRC");
     // The packages that share this script stand two folders below the top.
     let top = PathBuf::from(var("CARGO_MANIFEST_DIR")).join("../..");
-    let folder = env::var_os("MIRALIS_SRC").map_or_else(|| top.join(DEFAULT), PathBuf::from);
+    let folder = env::var_os("MIRALIS_SRC").filter(|f| !f.is_empty()).map_or_else(|| top.join(DEFAULT), PathBuf::from);
+    // this script runs in its package's folder, which is not where a relative path was meant from
+    assert!(folder.is_absolute(), "MIRALIS_SRC is {}: cargo needs the whole path", folder.display());
     for file in FILES.iter().chain([&ARCH]) {
         println!("cargo::rerun-if-changed={}", folder.join(file).display());
     }

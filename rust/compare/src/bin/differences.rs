@@ -6,7 +6,8 @@
 
 #[cfg(not(have_miralis))]
 fn main() {
-    println!("no Miralis text at hand (MIRALIS_SRC names its folder): nothing to run");
+    eprintln!("differences: there was no Miralis text when this was built (MIRALIS_SRC names its folder), so nothing is run");
+    std::process::exit(1);
 }
 
 #[cfg(have_miralis)]

@@ -8,7 +8,8 @@
 
 #[cfg(not(have_miralis))]
 fn main() {
-    println!("no Miralis text at hand (MIRALIS_SRC names its folder): no list is written");
+    eprintln!("vectors: there was no Miralis text when this was built (MIRALIS_SRC names its folder), so no list is written");
+    std::process::exit(1);
 }
 
 #[cfg(have_miralis)]
