@@ -8,3 +8,4 @@ pub mod Accepts
 pub mod AnyReader
 pub mod Codes
 pub mod Demand3
+pub mod Numbers

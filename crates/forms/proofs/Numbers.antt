@@ -1,0 +1,45 @@
+-- Which numbers a table refuses with: a word with the one number that its `Speech` gives, an instruction with the one that its `Speech` gives or,
+-- where it has a line, with 10. Assumes nothing.
+use mathlib.Core.Path.{_≡_, refl, sym, _∙_}
+use mathlib.Core.Bool.{Bool}
+use mathlib.Core.Logic.{_⊎_, inl, inr}
+use mathlib.Core.List.{List, [], _∷_}
+use Prim.Native.Nat.{ℕ}
+use Rattle.utils.specs.declared.Code.{Code}
+use Rattle.utils.specs.declared.Code.the-variants.{Is, Out}
+use Rattle.utils.proofs.Tests.{on}
+use Rattle.forms.specs.declared.Wrote.the-variants.{Refused}
+use Rattle.forms.specs.Layout.{Layout, readable, chosen, build}
+use Rattle.forms.specs.Table.{Kind, form, none, first}
+use Rattle.forms.specs.Speech.{Speech, within, put, readAs, readOf, writeAs, writeOf}
+use Rattle.forms.proofs.Table.{no-form}
+use Rattle.forms.proofs.AnyReader.{no-word}
+
+pub same-none : {F : Type 0} {m n : ℕ} → _≡_ {A = Kind F} (none m) (none n) → m ≡ n
+same-none e = cc
+
+pub same-refused : {m n : ℕ} → Refused m ≡ Refused n → m ≡ n
+same-refused e = cc
+
+first-number : (p : Layout → Bool) (T : List Layout) (m n : ℕ) → first p T m ≡ none n → n ≡ m
+first-number p [] m n = λ e. sym (same-none e)
+first-number p (L ∷ T) m n = on (λ (k : Kind Layout). k ≡ none n → n ≡ m) (p L) (λ _ e. no-form n L (sym e)) (λ _. first-number p T m n)
+
+module _ {I : Type 0} (T : List Layout) (S : Speech I) where
+  pub reading-number : (w n : ℕ) → readOf T S w ≡ none n → n ≡ S .why w
+  reading-number w n = go (first (readable w) T (S .why w)) refl
+    where
+      go : (k : Kind Layout) → first (readable w) T (S .why w) ≡ k → readAs S w k ≡ none n → n ≡ S .why w
+      go (form L) e q = no-form n _ (sym q)
+      go (none m) e q = sym (same-none q) ∙ first-number (readable w) T (S .why w) m e
+
+  pub writing-number : (i : I) (n : ℕ) → writeOf T S i ≡ Refused n → (n ≡ S .why-not i) ⊎ (n ≡ 10)
+  writing-number i n = go (first (chosen (S .ops i)) T (S .why-not i)) refl
+    where
+      held : (k : Code) (w : ℕ) → put k w ≡ Refused n → n ≡ 10
+      held (Is m) w q = no-word n (sym q)
+      held Out w q = sym (same-refused q)
+
+      go : (k : Kind Layout) → first (chosen (S .ops i)) T (S .why-not i) ≡ k → writeAs S i k ≡ Refused n → (n ≡ S .why-not i) ⊎ (n ≡ 10)
+      go (form L) e q = inr (held (within L (S .code i)) (build L (S .ops i)) q)
+      go (none m) e q = inl (sym (same-refused q) ∙ first-number (chosen (S .ops i)) T (S .why-not i) m e)
