@@ -1,17 +1,20 @@
 -- Which numbers a table refuses with: a word with the one number that its `Speech` gives, an instruction with the one that its `Speech` gives or,
 -- where it has a line, with 10. Assumes nothing.
-use mathlib.Core.Path.{_≡_, refl, sym, _∙_}
-use mathlib.Core.Bool.{Bool}
-use mathlib.Core.Logic.{_⊎_, inl, inr}
+use mathlib.Core.Path.{_≡_, refl, sym, _∙_, subst}
+use mathlib.Core.Bool.{Bool, true, false≢true}
+use mathlib.Core.Logic.{_⊎_, inl, inr, ⊎-elim}
 use mathlib.Core.List.{List, [], _∷_}
 use Prim.Native.Nat.{ℕ}
+use borrow.Author.Tests.{eqb-true}
+use lib.Dec.{eqb}
 use Rattle.utils.specs.declared.Code.{Code}
 use Rattle.utils.specs.declared.Code.the-variants.{Is, Out}
-use Rattle.utils.proofs.Tests.{on}
+use Rattle.utils.proofs.Tests.{both, either, on}
 use Rattle.forms.specs.declared.Wrote.the-variants.{Refused}
-use Rattle.forms.specs.Layout.{Layout, readable, chosen, build}
-use Rattle.forms.specs.Table.{Kind, form, none, first}
+use Rattle.forms.specs.Layout.{Layout, all, readable, chosen, build}
+use Rattle.forms.specs.Table.{Kind, form, none, first, any}
 use Rattle.forms.specs.Speech.{Speech, within, put, readAs, readOf, writeAs, writeOf}
+use Rattle.forms.specs.Numbers.{OneOf}
 use Rattle.forms.proofs.Table.{no-form}
 use Rattle.forms.proofs.AnyReader.{no-word}
 
@@ -43,3 +46,14 @@ module _ {I : Type 0} (T : List Layout) (S : Speech I) where
       go : (k : Kind Layout) → first (chosen (S .ops i)) T (S .why-not i) ≡ k → writeAs S i k ≡ Refused n → (n ≡ S .why-not i) ⊎ (n ≡ 10)
       go (form L) e q = inr (held (within L (S .code i)) (build L (S .ops i)) q)
       go (none m) e q = inl (sym (same-refused q) ∙ first-number (chosen (S .ops i)) T (S .why-not i) m e)
+
+-- ---- sets of numbers: the test that one lies in another is computed
+one-of : (ns : List ℕ) (n : ℕ) → any (eqb n) ns ≡ true → OneOf ns n
+one-of [] n e = false≢true e
+one-of (m ∷ ms) n e = either (eqb n m) (any (eqb n) ms) e (λ q. inl (eqb-true n m q)) (λ q. inr (one-of ms n q))
+
+pub wider : (ns ms : List ℕ) → all (λ n. any (eqb n) ms) ns ≡ true → (n : ℕ) → OneOf ns n → OneOf ms n
+wider [] ms e n h = absurd h
+wider (k ∷ ns) ms e n h =
+    let t = both (all (λ n. any (eqb n) ms) ns) (any (eqb k) ms) e in
+    ⊎-elim (λ q. subst (OneOf ms) (sym q) (one-of ms k (t .1))) (wider ns ms (t .0) n) h

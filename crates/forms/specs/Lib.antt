@@ -3,3 +3,4 @@ pub mod Segments
 pub mod Table
 pub mod Speech
 pub mod Demand3
+pub mod Numbers

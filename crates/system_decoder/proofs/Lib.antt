@@ -4,3 +4,4 @@ pub mod SystemSteps
 pub mod Legal
 pub mod Sentence
 pub mod Codes
+pub mod Numbers

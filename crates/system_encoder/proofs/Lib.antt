@@ -1,2 +1,3 @@
 pub mod SystemSteps
 pub mod System
+pub mod Numbers
