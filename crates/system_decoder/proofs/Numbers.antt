@@ -49,4 +49,4 @@ pub with-shape : (p : Profile) (w : ℕ) (s : Shape) → shapeAt w ≡ form s �
 unfolding illegalDef
 with-shape p w s e =
     ap (λ (k : Kind Shape). numberOf (readShape p k)) e
-    ∙ by-test (legalDef p s) (λ l. ap numberOf (legal p s l .1) ∙ sym (ap (λ (b : Bool). cond b 0 2) l)) (λ l. ap numberOf (illegal p s l) ∙ sym (ap (λ (b : Bool). cond b 0 2) l))
+    ∙ by-test (legalDef p s) (λ l. simp (legal p s l .1, l)) (λ l. simp (illegal p s l, l))

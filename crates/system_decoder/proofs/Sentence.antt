@@ -1,4 +1,4 @@
--- Which words the SYSTEM reading can accept, and demand 3's last sentence: on which grounds a word in CSR form is refused. Assumes nothing.
+-- Demand 3's last sentence: on which grounds a word in CSR form is refused as InvalidCsrOp. Assumes nothing.
 use mathlib.Core.Path.{_≡_, refl, sym, ap, _∙_}
 use mathlib.Core.Bool.{Bool, true, false, not, _||_, cond, false≢true}
 use mathlib.Core.Logic.{_⊎_, _↔_, inl, inr, ⊎-elim}
@@ -33,17 +33,17 @@ written Write k x e q = refl
 written Set k x e q = ⊎-elim (λ z. absurd (omega arith)) (λ n. ap not (ne-eqb x 0 n)) q
 written Clear k x e q = ⊎-elim (λ z. absurd (omega arith)) (λ n. ap not (ne-eqb x 0 n)) q
 
--- the answer has number 2 exactly where nothing is found or the access is barred
+-- the answer is refused as InvalidCsrOp exactly where nothing is found or the access is barred
 module _ (o : CsrOp) (m : Bool) (d x : ℕ) where
-  two : (b : Bool) (k : CsrLookup) → numberOf (cond b InvalidCsrOp (foundDef k o m d x)) ≡ 2 → (isFound k ≡ false) ⊎ (b ≡ true)
-  two true k e = inr refl
-  two false (Found c) e = absurd (omega arith)
-  two false Missing e = inl refl
+  has-grounds : (b : Bool) (k : CsrLookup) → numberOf (cond b InvalidCsrOp (foundDef k o m d x)) ≡ numberOf InvalidCsrOp → (isFound k ≡ false) ⊎ (b ≡ true)
+  has-grounds true k e = inr refl
+  has-grounds false (Found c) e = absurd (omega arith)
+  has-grounds false Missing e = inl refl
 
-  is-two : (b : Bool) (k : CsrLookup) → (isFound k ≡ false) ⊎ (b ≡ true) → numberOf (cond b InvalidCsrOp (foundDef k o m d x)) ≡ 2
-  is-two true k e = refl
-  is-two false (Found c) e = ⊎-elim (λ q. absurd (false≢true (sym q))) (λ q. absurd (false≢true q)) e
-  is-two false Missing e = refl
+  is-refused : (b : Bool) (k : CsrLookup) → (isFound k ≡ false) ⊎ (b ≡ true) → numberOf (cond b InvalidCsrOp (foundDef k o m d x)) ≡ numberOf InvalidCsrOp
+  is-refused true k e = refl
+  is-refused false (Found c) e = ⊎-elim (λ q. absurd (false≢true (sym q))) (λ q. absurd (false≢true q)) e
+  is-refused false Missing e = refl
 
 module _ (p : Profile) (w : ℕ) (f : CsrForm w) where
   six : (o : CsrOp) × (m : Bool) × (fld w 12 3 ≡ funct3 o m)
@@ -61,8 +61,8 @@ module _ (p : Profile) (w : ℕ) (f : CsrForm w) where
   pub sentence : Invalid p w ↔ Grounds p w
   unfolding available
   sentence = (
-    λ e. ⊎-elim inl (λ q. inr (barred q)) (two (six .0) (six .1) (fld w 7 5) (fld w 15 5) test (decodeCsrDef p (address w)) (sym (ap numberOf is) ∙ e)),
-    λ g. ap numberOf is ∙ is-two (six .0) (six .1) (fld w 7 5) (fld w 15 5) test (decodeCsrDef p (address w)) (⊎-elim inl (λ q. inr (bars q)) g),
+    λ e. ⊎-elim inl (λ q. inr (barred q)) (has-grounds (six .0) (six .1) (fld w 7 5) (fld w 15 5) test (decodeCsrDef p (address w)) (sym (ap numberOf is) ∙ e)),
+    λ g. ap numberOf is ∙ is-refused (six .0) (six .1) (fld w 7 5) (fld w 15 5) test (decodeCsrDef p (address w)) (⊎-elim inl (λ q. inr (bars q)) g),
   )
     where
       test : Bool

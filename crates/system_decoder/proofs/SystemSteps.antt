@@ -1,5 +1,5 @@
 -- What each exit of `shape_at` and of `access_at` knows is what the reading asks there. Assumes nothing.
-use mathlib.Core.Path.{_≡_, refl, sym, ap, _∙_}
+use mathlib.Core.Path.{_≡_, refl, sym, ap, _∙_, subst}
 use Prim.Native.Nat.{ℕ, _+_, _*_, _/_, _%_, _^_, _≤_, _<_}
 use native.Mathlib.Nat.{add-zero}
 use native.Mathlib.Omega.{arith}
@@ -14,10 +14,11 @@ use Rattle.forms.proofs.Codes.{bit-one}
 use Rattle.system_decoder.specs.declared.CsrOp.{CsrOp}
 use Rattle.system_decoder.specs.declared.Fence.{Fence}
 use Rattle.system_decoder.specs.declared.Fence.the-variants.{Vma, Vvma, Gvma}
+use Rattle.system_decoder.specs.declared.IllegalRead.the-variants.{Unknown}
 use Rattle.system_decoder.specs.Forms.{funct7}
 use Rattle.system_decoder.specs.declared.Shape.{Shape}
 use Rattle.system_decoder.specs.declared.Shape.the-variants.{Fence as fence, Access as access}
-use Rattle.system_decoder.specs.System.{opCode, FieldsOf, accessAt, shapeAt}
+use Rattle.system_decoder.specs.System.{numberOf, opCode, FieldsOf, accessAt, shapeAt}
 use Rattle.system_decoder.proofs.SystemMasks.{fence-mask}
 use Rattle.system_decoder.proofs.SystemLines.{FenceForm, past-wholes, unfit-other, at-fence, at-access, at-foreign, at-no-op, low-two}
 
@@ -25,7 +26,7 @@ use Rattle.system_decoder.proofs.SystemLines.{FenceForm, past-wholes, u
 pub opcode : (w : ℕ) → bitAnd w 127 ≡ 115 → w % 2 ^ 7 ≡ 0x73
 opcode w e = sym (and-mask w 7) ∙ e
 
-pub foreign : (w : ℕ) → (bitAnd w 127 ≡ 115 → ⊥) → none 1 ≡ shapeAt w
+pub foreign : (w : ℕ) → (bitAnd w 127 ≡ 115 → ⊥) → none (numberOf Unknown) ≡ shapeAt w
 foreign w n = sym (at-foreign w (λ e. n (and-mask w 7 ∙ e)))
 
 -- raw & !RS1_RS1_INSTR_TYPE_MASK tells the fences
@@ -43,8 +44,9 @@ module _ (w : ℕ) (h : w < 2 ^ 64) (k : ℕ) where
   fence-told f = fence-mask w h ∙ (λ j. f .above j * 2 ^ 25 + f .middle j * 2 ^ 7) ∙ add-zero (k * 2 ^ 25)
 
 module _ (w : ℕ) (h : w < 2 ^ 64) where
-  pub fenced : bitAnd w 127 ≡ 115 → (f : Fence) → bitAnd w 18446744073676029824 ≡ funct7 f * 2 ^ 25 → {s : Shape} → s ≡ fence f (fld w 15 5) (fld w 20 5) → form s ≡ shapeAt w
-  fenced e f q k = ap form k ∙ sym (at-fence w f (opcode w e) (told-fence w h (funct7 f) q))
+  pub fenced : bitAnd w 127 ≡ 115 → (f : Fence) → bitAnd w 18446744073676029824 ≡ funct7 f * 2 ^ 25 → {s : Shape} → s ≡ fence f (fld w 15 5) (fld w 20 5)
+      → (form s ≡ shapeAt w) × FieldsOf w s
+  fenced e f q k = (ap form k ∙ sym (at-fence w f (opcode w e) (told-fence w h (funct7 f) q)), subst (FieldsOf w) (sym k) tt)
 
   -- the word is none of WFI, MRET, SRET and the fences
   pub other : (w ≡ 0x10500073 → ⊥) → (w ≡ 0x30200073 → ⊥) → (w ≡ 0x10200073 → ⊥)
@@ -59,7 +61,7 @@ module _ (w : ℕ) (h : w < 2 ^ 64) where
 
 -- ---- access_at
 module _ (w : ℕ) where
-  pub no-op : w % 2 ^ 7 ≡ 0x73 → bitAnd (w / 2 ^ 12) 3 ≡ 0 → none 1 ≡ accessAt w
+  pub no-op : w % 2 ^ 7 ≡ 0x73 → bitAnd (w / 2 ^ 12) 3 ≡ 0 → none (numberOf Unknown) ≡ accessAt w
   no-op e z = sym (at-no-op w e (low-two w ∙ sym (mask-field w 12 2) ∙ z))
 
   pub some-code : (bitAnd (w / 2 ^ 12) 3 ≡ 0 → ⊥) → (1 ≤ bitAnd (w / 2 ^ 12) 3) × (bitAnd (w / 2 ^ 12) 3 ≤ 3)

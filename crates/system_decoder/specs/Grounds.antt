@@ -7,6 +7,7 @@ use Prim.Native.Nat.{ℕ, _%_, _^_}
 use Rattle.utils.specs.Field.{fld}
 use Rattle.profiles.specs.declared.Profile.{Profile}
 use Rattle.csrs.specs.Gates.{available}
+use Rattle.system_decoder.specs.declared.IllegalRead.the-variants.{InvalidCsrOp}
 use Rattle.system_decoder.specs.System.{illegalDef, numberOf}
 
 -- low seven bits 0x73, bits 13:12 not zero
@@ -29,6 +30,6 @@ ReadOnly a = fld a 10 2 ≡ 3
 abbrev pub Grounds : Profile → ℕ → Type 0
 Grounds p w = (available p (address w) ≡ false) ⊎ (ReadOnly (address w) × Writes w)
 
--- InvalidCsrOp is document 01's number 2
+-- refused as InvalidCsrOp
 abbrev pub Invalid : Profile → ℕ → Type 0
-Invalid p w = numberOf (illegalDef p w) ≡ 2
+Invalid p w = numberOf (illegalDef p w) ≡ numberOf InvalidCsrOp

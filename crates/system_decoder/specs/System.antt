@@ -106,9 +106,9 @@ operandsOf sret = operands (lineOf sret) 0 0 0 0
 operandsOf (fence f a b) = operands (lineOf (fence f a b)) 0 a b 0
 operandsOf (access o m a d x) = operands (lineOf (access o m a d x)) d x 0 a
 
--- a word that has no line gives 1; a shape that has none has a register above 31
+-- a word that has no line is unknown; a shape that has none has a register above 31
 abbrev pub speech : Speech Shape
-speech = record { make = λ env. getD (shapes env) (env funct) wfi; ops = operandsOf; code = λ s. IsCode 0; is-short = λ s. false; why = λ w. 1; why-not = λ s. 6 }
+speech = record { make = λ env. getD (shapes env) (env funct) wfi; ops = operandsOf; code = λ s. IsCode 0; is-short = λ s. false; why = λ w. numberOf Unknown; why-not = λ s. 6 }
 
 -- CSR forms ignore bits above 31
 unfoldable pub accessAt : ℕ → Kind Shape

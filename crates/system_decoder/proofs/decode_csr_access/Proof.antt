@@ -10,11 +10,20 @@ use Rattle.system_decoder.specs.System.{barredDef, foundDef, instAt}
 use Rattle.system_decoder.proofs.decode_csr_access.Statement.{statement}
 use Rattle.system_decoder.proofs.decode_csr_access.Tie as tie
 
-answer : (c : tie.After-is-barred) {b : Bool} → c .is-barred .result ≡ b → {k : CsrLookup} → k ≡ decodeCsrDef (c .before .before .args .ctx) (c .before .before .args .csr-id)
-    → cond b InvalidCsrOp (foundDef k (c .before .before .args .op) (c .before .before .args .imm) (c .before .before .args .rd) (c .before .before .args .src)) ≡ instAt (c .before .before .args .ctx) (access (c .before .before .args .op) (c .before .before .args .imm) (c .before .before .args .csr-id) (c .before .before .args .rd) (c .before .before .args .src))
+-- what follows from the test's answer b and from what the look-up found
+abbrev Answers : tie.Start → Bool → CsrLookup → Type 0
+Answers s b k =
+    let a = s .args in
+    cond b InvalidCsrOp (foundDef k (a .op) (a .imm) (a .rd) (a .src)) ≡ instAt (a .ctx) (access (a .op) (a .imm) (a .csr-id) (a .rd) (a .src))
+
+abbrev entry : tie.After-is-barred → tie.Start
+entry c = c .before .before
+
+answer : (c : tie.After-is-barred) {b : Bool} {k : CsrLookup} → c .is-barred .result ≡ b → k ≡ decodeCsrDef (entry c .args .ctx) (entry c .args .csr-id) → Answers (entry c) b k
 answer c e l =
-    let a = c .before .before .args in
-    λ j. cond ((sym e ∙ c .is-barred .ensures ∙ ap (λ (y : Bool). barredDef (a .csr-id) y (a .src)) (c .before .always-writes .ensures)) j) InvalidCsrOp (foundDef (l j) (a .op) (a .imm) (a .rd) (a .src))
+    let a = entry c .args in
+    let test = sym e ∙ c .is-barred .ensures ∙ ap (λ (y : Bool). barredDef (a .csr-id) y (a .src)) (c .before .always-writes .ensures) in
+    λ j. cond (test j) InvalidCsrOp (foundDef (l j) (a .op) (a .imm) (a .rd) (a .src))
 
 pub decode-csr-access-spec : {M : Type 1} → statement M
 decode-csr-access-spec =

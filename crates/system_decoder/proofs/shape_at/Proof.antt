@@ -1,8 +1,8 @@
 -- `system_decoder::shape_at` meets its contract: each exit by the step that its tests allow. Assumes nothing.
-use mathlib.Core.Path.{sym, ap, subst, _∙_}
+use mathlib.Core.Path.{sym, ap, _∙_}
 use borrow.Author.Needs.{needs}
 use Rattle.system_decoder.specs.declared.Fence.the-variants.{Vma, Vvma, Gvma}
-use Rattle.system_decoder.specs.System.{FieldsOf, shapeAt}
+use Rattle.system_decoder.specs.System.{shapeAt}
 use Rattle.system_decoder.proofs.SystemSteps.{opcode, foreign, fenced, other}
 use Rattle.system_decoder.proofs.shape_at.Statement.{statement}
 use Rattle.system_decoder.proofs.shape_at.Tie as tie
@@ -19,15 +19,15 @@ shape-at-spec =
     (λ c κs. search needs)
     (λ c.
     let e = c .before .before .before in
-    (fenced (e .before .args .raw) (e .before .fits .raw .fits) (e .if1 .left) Vma (c .before .match2 .keys1) (c .fence-at .ensures), subst (FieldsOf (e .before .args .raw)) (sym (c .fence-at .ensures)) tt))
+    fenced (e .before .args .raw) (e .before .fits .raw .fits) (e .if1 .left) Vma (c .before .match2 .keys1) (c .fence-at .ensures))
     (λ c κs. search needs)
     (λ c.
     let e = c .before .before .before in
-    (fenced (e .before .args .raw) (e .before .fits .raw .fits) (e .if1 .left) Vvma (c .before .match2 .keys2) (c .fence-at2 .ensures), subst (FieldsOf (e .before .args .raw)) (sym (c .fence-at2 .ensures)) tt))
+    fenced (e .before .args .raw) (e .before .fits .raw .fits) (e .if1 .left) Vvma (c .before .match2 .keys2) (c .fence-at2 .ensures))
     (λ c κs. search needs)
     (λ c.
     let e = c .before .before .before in
-    (fenced (e .before .args .raw) (e .before .fits .raw .fits) (e .if1 .left) Gvma (c .before .match2 .keys3) (c .fence-at3 .ensures), subst (FieldsOf (e .before .args .raw)) (sym (c .fence-at3 .ensures)) tt))
+    fenced (e .before .args .raw) (e .before .fits .raw .fits) (e .if1 .left) Gvma (c .before .match2 .keys3) (c .fence-at3 .ensures))
     (λ c κs. opcode (c .before .before .before .args .raw) (c .before .before .if1 .left))
     (λ c.
     let s = c .before .before .before .before in
