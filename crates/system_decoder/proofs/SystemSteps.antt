@@ -19,19 +19,19 @@ use Rattle.system_decoder.specs.Forms.{funct7}
 use Rattle.system_decoder.specs.declared.Shape.{Shape}
 use Rattle.system_decoder.specs.declared.Shape.the-variants.{Fence as fence, Access as access}
 use Rattle.system_decoder.specs.System.{numberOf, opCode, FieldsOf, accessAt, shapeAt}
-use Rattle.system_decoder.proofs.SystemMasks.{fence-mask}
+use Rattle.system_decoder.proofs.SystemMasks.{fenceBits, fence-mask}
 use Rattle.system_decoder.proofs.SystemLines.{FenceForm, past-wholes, unfit-other, at-fence, at-access, at-foreign, at-no-op, low-two}
 
 -- ---- shape_at
-pub opcode : (w : ℕ) → bitAnd w 127 ≡ 115 → w % 2 ^ 7 ≡ 0x73
+pub opcode : (w : ℕ) → bitAnd w 0x7F ≡ 0x73 → w % 2 ^ 7 ≡ 0x73
 opcode w e = sym (and-mask w 7) ∙ e
 
-pub foreign : (w : ℕ) → (bitAnd w 127 ≡ 115 → ⊥) → none (numberOf Unknown) ≡ shapeAt w
+pub foreign : (w : ℕ) → (bitAnd w 0x7F ≡ 0x73 → ⊥) → none (numberOf Unknown) ≡ shapeAt w
 foreign w n = sym (at-foreign w (λ e. n (and-mask w 7 ∙ e)))
 
--- raw & !RS1_RS1_INSTR_TYPE_MASK tells the fences
+-- the bits that tell the fences
 module _ (w : ℕ) (h : w < 2 ^ 64) (k : ℕ) where
-  told-fence : bitAnd w 18446744073676029824 ≡ k * 2 ^ 25 → FenceForm w k
+  told-fence : bitAnd w fenceBits ≡ k * 2 ^ 25 → FenceForm w k
   told-fence e = go (fld w 7 8) (w / 2 ^ 25) (fld-lt w 7 8) refl refl (sym (fence-mask w h) ∙ e)
     where
       go : (m t : ℕ) → m < 2 ^ 8 → fld w 7 8 ≡ m → w / 2 ^ 25 ≡ t → t * 2 ^ 25 + m * 2 ^ 7 ≡ k * 2 ^ 25 → FenceForm w k
@@ -40,21 +40,21 @@ module _ (w : ℕ) (h : w < 2 ^ 64) (k : ℕ) where
           let y : m ≡ 0 = omega arith in
           record { middle = a ∙ y; above = b ∙ z }
 
-  fence-told : FenceForm w k → bitAnd w 18446744073676029824 ≡ k * 2 ^ 25
+  fence-told : FenceForm w k → bitAnd w fenceBits ≡ k * 2 ^ 25
   fence-told f = fence-mask w h ∙ (λ j. f .above j * 2 ^ 25 + f .middle j * 2 ^ 7) ∙ add-zero (k * 2 ^ 25)
 
 module _ (w : ℕ) (h : w < 2 ^ 64) where
-  pub fenced : bitAnd w 127 ≡ 115 → (f : Fence) → bitAnd w 18446744073676029824 ≡ funct7 f * 2 ^ 25 → {s : Shape} → s ≡ fence f (fld w 15 5) (fld w 20 5)
+  pub fenced : bitAnd w 0x7F ≡ 0x73 → (f : Fence) → bitAnd w fenceBits ≡ funct7 f * 2 ^ 25 → {s : Shape} → s ≡ fence f (fld w 15 5) (fld w 20 5)
       → (form s ≡ shapeAt w) × FieldsOf w s
   fenced e f q k = (ap form k ∙ sym (at-fence w f (opcode w e) (told-fence w h (funct7 f) q)), subst (FieldsOf w) (sym k) tt)
 
   -- the word is none of WFI, MRET, SRET and the fences
   pub other : (w ≡ 0x10500073 → ⊥) → (w ≡ 0x30200073 → ⊥) → (w ≡ 0x10200073 → ⊥)
-      → (bitAnd w 18446744073676029824 ≡ funct7 Vma * 2 ^ 25 → ⊥) → (bitAnd w 18446744073676029824 ≡ funct7 Vvma * 2 ^ 25 → ⊥) → (bitAnd w 18446744073676029824 ≡ funct7 Gvma * 2 ^ 25 → ⊥)
+      → (bitAnd w fenceBits ≡ funct7 Vma * 2 ^ 25 → ⊥) → (bitAnd w fenceBits ≡ funct7 Vvma * 2 ^ 25 → ⊥) → (bitAnd w fenceBits ≡ funct7 Gvma * 2 ^ 25 → ⊥)
       → accessAt w ≡ shapeAt w
   other a b c x y z = sym (past-wholes w (unfit-other w (record { not-wfi = a; not-mret = b; not-sret = c; not-fence = λ f q. none-of f (fence-told w h (funct7 f) q) })))
     where
-      none-of : (f : Fence) → bitAnd w 18446744073676029824 ≡ funct7 f * 2 ^ 25 → ⊥
+      none-of : (f : Fence) → bitAnd w fenceBits ≡ funct7 f * 2 ^ 25 → ⊥
       none-of Vma = x
       none-of Vvma = y
       none-of Gvma = z
