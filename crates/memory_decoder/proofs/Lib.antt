@@ -1,2 +1,4 @@
 pub mod Accepts
+pub mod Lengths
+pub mod Numbers
 pub mod Reading

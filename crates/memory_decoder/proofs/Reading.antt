@@ -1,6 +1,6 @@
 -- What the code's tests say of reading by a table of loads or stores, once for both. Assumes nothing.
 use mathlib.Core.Path.{_≡_, refl, sym, ap, _∙_, subst}
-use mathlib.Core.Bool.{Bool, true, _&&_}
+use mathlib.Core.Bool.{Bool, true, _&&_, cond}
 use mathlib.Core.List.{List, [], _∷_}
 use Prim.Native.Nat.{ℕ, _+_, _/_, _%_, _^_, _<_}
 use native.Mathlib.Nat.{mod-eq-of-lt, lt-of-lt-of-le}
@@ -21,11 +21,12 @@ use Rattle.utils.proofs.Signed.{signed-low}
 use Rattle.utils.specs.declared.Width.{Width}
 use Rattle.registers.specs.declared.Register.{Register}
 use Rattle.forms.specs.Layout.{Layout, imm, all, pieces, size, read, good}
-use Rattle.forms.specs.Table.{Kind, first}
+use Rattle.forms.specs.Table.{Kind, form, none, first}
 use Rattle.forms.specs.Speech.{Speech, readAs, readOf}
 use Rattle.forms.proofs.Laws.{read-lt}
 use Rattle.forms.proofs.Shifts.{orRead, gathered}
-use Rattle.forms.proofs.Facts.{Fact, Known, settles, fits, Reason, reason, whyBy, whyOf, clears, by-facts}
+use Rattle.forms.proofs.Facts.{Fact, Known, settles, fits, Reason, reason, whyOf, clears, by-facts}
+use Rattle.memory_decoder.specs.Access.{isLong, unread}
 use Rattle.memory_decoder.specs.Forms.{loads, stores}
 use Rattle.memory_decoder.specs.Load as Load
 use Rattle.memory_decoder.specs.Store as Store
@@ -35,6 +36,7 @@ use Rattle.memory_decoder.specs.declared.LoadRead.{LoadRead}
 use Rattle.memory_decoder.specs.declared.StoreInstr.{StoreInstr}
 use Rattle.memory_decoder.specs.declared.StoreRead.the-variants.{Store as AStore}
 use Rattle.memory_decoder.specs.declared.StoreRead.{StoreRead}
+use Rattle.memory_decoder.proofs.Lengths.{if-long, if-short}
 
 -- ---- fields that the code masks
 module _ (w k : ℕ) where
@@ -69,37 +71,62 @@ module _ (L : Layout) (ok : good L ≡ true) (small : leb (size L imm) 11 ≡ tr
 -- ---- a table of loads or stores and its answers
 pub record Reading (I R : Type 0) : Type 1 where
   pub answer : Kind I → R
+  pub number : R → ℕ
   pub table : List Layout
   pub speech : Speech I
+  pub opcode : ℕ  -- of the 32-bit form
   pub fine : all good table ≡ true
-  pub reasons : List Reason  -- of the refusals of a word that is no line; else 3
-  pub why : (w : ℕ) → speech .why w ≡ whyBy reasons 3 w
+  pub why : (w : ℕ) → speech .why w ≡ unread opcode w
+  pub number-form : (i : I) → number (answer (form i)) ≡ 0
+  pub number-none : (n : ℕ) → number (answer (none n)) ≡ n
 
 abbrev pub loading : Reading LoadInstr LoadRead
 loading = record {
   answer = Load.answered;
+  number = Load.numberOf;
   table = loads;
   speech = Load.speech;
+  opcode = 0x03;
   fine = refl;
-  reasons = reason 0 2 0b10 5 ∷ reason 0 7 0x03 4 ∷ [];
   why = λ w. refl;
+  number-form = λ i. refl;
+  number-none = λ n. refl;
 }
 
 abbrev pub storing : Reading StoreInstr StoreRead
 storing = record {
   answer = Store.answered;
+  number = Store.numberOf;
   table = stores;
   speech = Store.speech;
+  opcode = 0x23;
   fine = refl;
-  reasons = reason 0 2 0b10 5 ∷ reason 0 7 0x23 4 ∷ [];
   why = λ w. refl;
+  number-form = λ i. refl;
+  number-none = λ n. refl;
 }
 
+-- the answer to a word
+abbrev pub whole : {I R : Type 0} → Reading I R → ℕ → R
+whole F w = F .answer (readOf (F .table) (F .speech) w)
+
+-- `unread` as tests of fields
+abbrev reasons : ℕ → List Reason
+reasons opcode = reason 0 2 0b10 5 ∷ reason 0 7 opcode 4 ∷ []
+
 -- what the code knows of the word settles its answer
-module _ {I R : Type 0} (F : Reading I R) (w : ℕ) (fs : List Fact) where
-  pub reads : Known w fs → (settles fs (F .table) && clears fs (F .reasons)) ≡ true
-      → F .answer (readAs (F .speech) w (first (fits fs) (F .table) (whyOf fs (F .reasons) 3))) ≡ F .answer (readOf (F .table) (F .speech) w)
-  reads h e = ap (F .answer) (sym (by-facts (F .table) (F .speech) (F .fine) (F .reasons) 3 (F .why) w fs h e))
+module _ {I R : Type 0} (F : Reading I R) (w : ℕ) where
+  pub reads : (fs : List Fact) → Known w fs → (settles fs (F .table) && clears fs (reasons (F .opcode))) ≡ true
+      → F .answer (readAs (F .speech) w (first (fits fs) (F .table) (whyOf fs (reasons (F .opcode)) 3))) ≡ whole F w
+  reads fs h e = ap (F .answer) (sym (by-facts (F .table) (F .speech) (F .fine) (reasons (F .opcode)) 3 (F .why) w fs h e))
+
+  -- the same of a reader of one length of words, which answers 3 to the other
+  module _ {r : R} where
+    pub long-reads : w % 2 ^ 2 ≡ 0b11 → r ≡ whole F w → r ≡ cond (isLong w) (whole F w) (F .answer (none 3))
+    long-reads e q = q ∙ sym (if-long w (whole F w) (F .answer (none 3)) e)
+
+    pub short-reads : (w % 2 ^ 2 ≡ 0b11 → ⊥) → r ≡ whole F w → r ≡ cond (isLong w) (F .answer (none 3)) (whole F w)
+    short-reads e q = q ∙ sym (if-short w (F .answer (none 3)) (whole F w) e)
 
 -- ---- the answers, part by part
 pub same-load : {d e a b : Register} {m n : ℤ} {k l : Width} {u v : Bool} (c : Bool) → d ≡ e → a ≡ b → m ≡ n → k ≡ l → u ≡ v

@@ -1,3 +1,4 @@
+pub mod Access
 pub mod Forms
 pub mod Funct3
 pub mod Load

@@ -1,6 +1,6 @@
 -- What a word is as a load, by the table of loads: document 01's "Reading loads and stores".
-use Prim.Native.Nat.{ℕ, _%_, _^_}
-use mathlib.Core.Bool.{Bool, _&&_, cond}
+use Prim.Native.Nat.{ℕ}
+use mathlib.Core.Bool.{Bool, cond}
 use lib.Dec.{eqb, leb}
 use lib.IntN.{ℤ}
 use Rattle.utils.specs.Signed.{signed, twos, codeDef}
@@ -9,6 +9,7 @@ use Rattle.profiles.specs.declared.Profile.{Profile}
 use Rattle.forms.specs.Layout.{Operand, imm, rd, rs1, rs2, funct, csr, short}
 use Rattle.forms.specs.Table.{Kind, form, none}
 use Rattle.forms.specs.Speech.{Speech, readOf, bitOf}
+use Rattle.memory_decoder.specs.Access.{isLong, unread, unwritten}
 use Rattle.memory_decoder.specs.Forms.{loads}
 use Rattle.memory_decoder.specs.Funct3.{widthOf, funct3Of}
 use Rattle.memory_decoder.specs.declared.LoadInstr.{LoadInstr}
@@ -37,16 +38,11 @@ operandsOf i funct = funct3Of (i .len) (i .«is_unsigned»)
 operandsOf i csr = 0
 operandsOf i short = bitOf (i .«is_compressed»)
 
--- a word that has no line: 5 where its low two bits are 10, 4 where its opcode is the loads', else 3
-abbrev pub why : ℕ → ℕ
-why w = cond (eqb (w % 2 ^ 2) 0b10) 5 (cond (eqb (w % 2 ^ 7) 0x03) 4 3)
-
--- a load that has no line: 6 where a register is above 31, else 9
 abbrev pub whyNot : LoadInstr → ℕ
-whyNot i = cond (leb (i .rd .0) 31 && leb (i .rs1 .0) 31) 9 6
+whyNot i = unwritten (i .rd .0) (i .rs1 .0)
 
 abbrev pub speech : Speech LoadInstr
-speech = record { make = made; ops = operandsOf; code = λ i. codeDef 2048 (i .imm); is-short = λ i. i .«is_compressed»; why = why; why-not = whyNot }
+speech = record { make = made; ops = operandsOf; code = λ i. codeDef 2048 (i .imm); is-short = λ i. i .«is_compressed»; why = unread 0x03; why-not = whyNot }
 
 -- ---- the reading; it asks nothing of the profile
 abbrev pub answered : Kind LoadInstr → LoadRead
@@ -55,3 +51,10 @@ answered (none n) = Refused n
 
 unfoldable pub loadDef : Profile → ℕ → LoadRead
 loadDef p w = answered (readOf loads speech w)
+
+-- a reading of words of one length: a word of the other length is not of the form
+abbrev pub uncompressedLoadDef : Profile → ℕ → LoadRead
+uncompressedLoadDef p w = cond (isLong w) (loadDef p w) (Refused 3)
+
+abbrev pub compressedLoadDef : Profile → ℕ → LoadRead
+compressedLoadDef p w = cond (isLong w) (Refused 3) (loadDef p w)

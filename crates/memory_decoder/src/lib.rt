@@ -7,8 +7,8 @@ ghost use Rattle.utils.specs.Signed.{signed};
 ghost use Rattle.forms.specs.Layout.{read, imm};
 ghost use Rattle.memory_decoder.specs.Forms.{c-lw, c-ld};
 ghost use Rattle.memory_decoder.specs.Funct3.{widthOf};
-ghost use Rattle.memory_decoder.specs.Load.{loadDef};
-ghost use Rattle.memory_decoder.specs.Store.{storeDef};
+ghost use Rattle.memory_decoder.specs.Load.{loadDef, uncompressedLoadDef, compressedLoadDef};
+ghost use Rattle.memory_decoder.specs.Store.{storeDef, uncompressedStoreDef, compressedStoreDef};
 use profiles::Profile;
 use registers::Register;
 use utils::Width;
@@ -62,11 +62,7 @@ pub fn decode_load(ctx: Profile, raw: usize) -> LoadRead
 {
     match extract_last_two_bits(raw) {
         0b11 => decode_uncompressed_load(ctx, raw),
-        // Register-based load and store instructions for C set start with 0b00
-        0b00 => decode_register_based_compressed_load(ctx, raw),
-        // Stack-based load and store instructions for C set start with 0b10
-        0b10 => LoadRead::Refused(refusals::STACK_FORM),
-        _ => LoadRead::Refused(refusals::NOT_THE_FORM),
+        _ => decode_compressed_load(ctx, raw),
     }
 }
 
@@ -76,11 +72,20 @@ pub fn decode_store(ctx: Profile, raw: usize) -> StoreRead
 {
     match extract_last_two_bits(raw) {
         0b11 => decode_uncompressed_store(ctx, raw),
+        _ => decode_compressed_store(ctx, raw),
+    }
+}
+
+// Decodes a compressed load. A word of 32 bits is not of the form.
+pub fn decode_compressed_load(ctx: Profile, raw: usize) -> LoadRead
+    ensures { λ r. ⌜ r ≡ compressedLoadDef ctx raw ⌝ }
+{
+    match extract_last_two_bits(raw) {
         // Register-based load and store instructions for C set start with 0b00
-        0b00 => decode_register_based_compressed_store(ctx, raw),
+        0b00 => decode_register_based_compressed_load(ctx, raw),
         // Stack-based load and store instructions for C set start with 0b10
-        0b10 => StoreRead::Refused(refusals::STACK_FORM),
-        _ => StoreRead::Refused(refusals::NOT_THE_FORM),
+        0b10 => LoadRead::Refused(refusals::STACK_FORM),
+        _ => LoadRead::Refused(refusals::NOT_THE_FORM),
     }
 }
 
@@ -113,6 +118,19 @@ fn decode_register_based_compressed_load(ctx: Profile, raw: usize) -> LoadRead
     }
 }
 
+// Decodes a compressed store. A word of 32 bits is not of the form.
+pub fn decode_compressed_store(ctx: Profile, raw: usize) -> StoreRead
+    ensures { λ r. ⌜ r ≡ compressedStoreDef ctx raw ⌝ }
+{
+    match extract_last_two_bits(raw) {
+        // Register-based load and store instructions for C set start with 0b00
+        0b00 => decode_register_based_compressed_store(ctx, raw),
+        // Stack-based load and store instructions for C set start with 0b10
+        0b10 => StoreRead::Refused(refusals::STACK_FORM),
+        _ => StoreRead::Refused(refusals::NOT_THE_FORM),
+    }
+}
+
 fn decode_register_based_compressed_store(ctx: Profile, raw: usize) -> StoreRead
     requires { ⌜ raw % 2 ^ 2 ≡ 0b00 ⌝ }
     ensures { λ r. ⌜ r ≡ storeDef ctx raw ⌝ }
@@ -140,9 +158,9 @@ fn decode_register_based_compressed_store(ctx: Profile, raw: usize) -> StoreRead
     }
 }
 
-fn decode_uncompressed_load(ctx: Profile, raw: usize) -> LoadRead
-    requires { ⌜ raw % 2 ^ 2 ≡ 0b11 ⌝ }
-    ensures { λ r. ⌜ r ≡ loadDef ctx raw ⌝ }
+// Decodes a load of 32 bits. A compressed word is not of the form.
+pub fn decode_uncompressed_load(ctx: Profile, raw: usize) -> LoadRead
+    ensures { λ r. ⌜ r ≡ uncompressedLoadDef ctx raw ⌝ }
 {
     if raw & 0b1111111 != 0x03 {
         return LoadRead::Refused(refusals::NOT_THE_FORM);
@@ -165,9 +183,9 @@ fn decode_uncompressed_load(ctx: Profile, raw: usize) -> LoadRead
     })
 }
 
-fn decode_uncompressed_store(ctx: Profile, raw: usize) -> StoreRead
-    requires { ⌜ raw % 2 ^ 2 ≡ 0b11 ⌝ }
-    ensures { λ r. ⌜ r ≡ storeDef ctx raw ⌝ }
+// Decodes a store of 32 bits. A compressed word is not of the form.
+pub fn decode_uncompressed_store(ctx: Profile, raw: usize) -> StoreRead
+    ensures { λ r. ⌜ r ≡ uncompressedStoreDef ctx raw ⌝ }
 {
     if raw & 0b1111111 != 0x23 {
         return StoreRead::Refused(refusals::NOT_THE_FORM);

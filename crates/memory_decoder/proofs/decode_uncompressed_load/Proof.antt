@@ -9,7 +9,8 @@ use Rattle.forms.proofs.Facts.{is, isnt, seen, unseen}
 use Rattle.memory_decoder.specs.Funct3.{widthOf}
 use Rattle.memory_decoder.specs.Load.{loadDef}
 use Rattle.utils.proofs.Signed.{kept}
-use Rattle.memory_decoder.proofs.Reading.{loading, reads, same-load}
+use Rattle.memory_decoder.proofs.Lengths.{opcode-long, by-length}
+use Rattle.memory_decoder.proofs.Reading.{loading, reads, long-reads, same-load}
 use Rattle.memory_decoder.proofs.decode_uncompressed_load.Statement.{statement}
 use Rattle.memory_decoder.proofs.decode_uncompressed_load.Tie as tie
 
@@ -18,18 +19,26 @@ unfolding loadDef
 decode-uncompressed-load-spec =
     tie.close
     (tie.spec
-    (λ c. reads loading (c .before .args .raw) (is 0 2 0b11 ∷ isnt 0 7 0x03 ∷ []) (c .before .pre, (unseen (c .before .args .raw) 0 7 (c .if1 .taken), tt)) refl)
+    (λ c.
+    let w = c .before .args .raw in
+    by-length w _ _ (λ long. reads loading w (is 0 2 0b11 ∷ isnt 0 7 0x03 ∷ []) (long, (unseen w 0 7 (c .if1 .taken), tt)) refl) (λ short. refl))
     (λ c.
     let w = c .before .before .args .raw in
-    reads loading w (is 0 7 0x03 ∷ is 12 3 0b111 ∷ []) (seen w 0 7 (c .before .if1 .left), (seen w 12 3 (c .if2 .taken), tt)) refl)
+    let op = seen w 0 7 (c .before .if1 .left) in
+    long-reads loading w (opcode-long w 0x03 refl op) (reads loading w (is 0 7 0x03 ∷ is 12 3 0b111 ∷ []) (op, (seen w 12 3 (c .if2 .taken), tt)) refl))
     (λ c κs. search needs)
     (λ c κs. search needs)
     (λ c κs. search needs)
     (λ c κs. search needs)
     (λ c.
-    let s = c .before .before .before .before .before in
-    let w = s .before .args .raw in
-    let n = c .before .bits-to-int in
-    same-load false (c .before .before .before .register-at .ensures) (c .before .before .register-at2 .ensures) (kept (record { sfits = n .ok }) (n .ensures))
+    let imm = c .before in
+    let base = imm .before in
+    let dest = base .before in
+    let width = dest .before in
+    let w = width .before .before .args .raw in
+    let op = seen w 0 7 (width .before .if1 .left) in
+    let n = imm .bits-to-int in
+    long-reads loading w (opcode-long w 0x03 refl op)
+    (same-load false (dest .register-at .ensures) (base .register-at2 .ensures) (kept (record { sfits = n .ok }) (n .ensures))
     (c .width-of .ensures ∙ ap widthOf (mask-field w 12 3)) (ap (leb 4) (mask-field w 12 3))
-    ∙ reads loading w (is 0 7 0x03 ∷ isnt 12 3 0b111 ∷ []) (seen w 0 7 (s .if1 .left), (unseen w 12 3 (c .before .before .before .before .if2 .left), tt)) refl))
+    ∙ reads loading w (is 0 7 0x03 ∷ isnt 12 3 0b111 ∷ []) (op, (unseen w 12 3 (width .if2 .left), tt)) refl)))

@@ -22,7 +22,8 @@ use Rattle.memory_decoder.specs.Forms.{store}
 use Rattle.memory_decoder.specs.Funct3.{widthOf}
 use Rattle.memory_decoder.specs.Store.{storeDef}
 use Rattle.utils.proofs.Signed.{kept}
-use Rattle.memory_decoder.proofs.Reading.{storing, reads, same-store}
+use Rattle.memory_decoder.proofs.Lengths.{opcode-long, by-length}
+use Rattle.memory_decoder.proofs.Reading.{storing, reads, long-reads, same-store}
 use Rattle.memory_decoder.proofs.decode_uncompressed_store.Statement.{statement}
 use Rattle.memory_decoder.proofs.decode_uncompressed_store.Tie as tie
 
@@ -53,18 +54,26 @@ unfolding storeDef
 decode-uncompressed-store-spec =
     tie.close
     (tie.spec
-    (λ c. reads storing (c .before .args .raw) (is 0 2 0b11 ∷ isnt 0 7 0x23 ∷ []) (c .before .pre, (unseen (c .before .args .raw) 0 7 (c .if1 .taken), tt)) refl)
+    (λ c.
+    let w = c .before .args .raw in
+    by-length w _ _ (λ long. reads storing w (is 0 2 0b11 ∷ isnt 0 7 0x23 ∷ []) (long, (unseen w 0 7 (c .if1 .taken), tt)) refl) (λ short. refl))
     (λ c.
     let w = c .before .before .args .raw in
-    reads storing w (is 0 7 0x23 ∷ isnt 14 1 0b0 ∷ []) (seen w 0 7 (c .before .if1 .left), (no-top-bit w (c .if2 .taken), tt)) refl)
+    let op = seen w 0 7 (c .before .if1 .left) in
+    long-reads storing w (opcode-long w 0x23 refl op) (reads storing w (is 0 7 0x23 ∷ isnt 14 1 0b0 ∷ []) (op, (no-top-bit w (c .if2 .taken), tt)) refl))
     (λ c κs. search needs)
     (λ c κs. search needs)
     (λ c κs. search needs)
     (λ c κs. search needs)
     (λ c.
-    let s = c .before .before .before .before .before in
-    let w = s .before .args .raw in
-    let n = c .before .bits-to-int in
-    same-store false (c .before .before .register-at2 .ensures) (c .before .before .before .register-at .ensures)
+    let imm = c .before in
+    let source = imm .before in
+    let base = source .before in
+    let width = base .before in
+    let w = width .before .before .args .raw in
+    let op = seen w 0 7 (width .before .if1 .left) in
+    let n = imm .bits-to-int in
+    long-reads storing w (opcode-long w 0x23 refl op)
+    (same-store false (source .register-at2 .ensures) (base .register-at .ensures)
     (kept (record { sfits = n .ok }) (n .ensures ∙ ap (signed 2048) (gathered-imm w))) (c .width-of .ensures ∙ two-bits w)
-    ∙ reads storing w (is 0 7 0x23 ∷ is 14 1 0b0 ∷ []) (seen w 0 7 (s .if1 .left), (top-bit w (c .before .before .before .before .if2 .left), tt)) refl))
+    ∙ reads storing w (is 0 7 0x23 ∷ is 14 1 0b0 ∷ []) (op, (top-bit w (width .if2 .left), tt)) refl)))

@@ -1,0 +1,23 @@
+-- Going by the length of a word. Assumes nothing.
+use mathlib.Core.Path.{_≡_, ap}
+use mathlib.Core.Bool.{Bool, cond}
+use Prim.Native.Nat.{ℕ, _%_, _^_}
+use native.Mathlib.Omega.{arith}
+use borrow.Author.Tests.{eq-eqb, ne-eqb, eqb-true, eqb-false}
+use Rattle.utils.proofs.Tests.{on}
+use Rattle.memory_decoder.specs.Access.{isLong}
+
+-- an opcode of seven bits has the low two
+pub opcode-long : (w v : ℕ) → v % 2 ^ 2 ≡ 0b11 → w % 2 ^ 7 ≡ v → w % 2 ^ 2 ≡ 0b11
+opcode-long w v e q = omega arith
+
+module _ {R : Type 0} (w : ℕ) (x y : R) where
+  pub if-long : w % 2 ^ 2 ≡ 0b11 → cond (isLong w) x y ≡ x
+  if-long e = ap (λ (b : Bool). cond b x y) (eq-eqb _ _ e)
+
+  pub if-short : (w % 2 ^ 2 ≡ 0b11 → ⊥) → cond (isLong w) x y ≡ y
+  if-short e = ap (λ (b : Bool). cond b x y) (ne-eqb _ _ e)
+
+  -- an answer that is right for both lengths
+  pub by-length : {r : R} → (w % 2 ^ 2 ≡ 0b11 → r ≡ x) → ((w % 2 ^ 2 ≡ 0b11 → ⊥) → r ≡ y) → r ≡ cond (isLong w) x y
+  by-length {r} f g = on (λ (z : R). r ≡ z) (isLong w) (λ e. f (eqb-true _ _ e)) (λ e. g (eqb-false _ _ e))
