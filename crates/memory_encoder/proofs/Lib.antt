@@ -3,3 +3,4 @@ pub mod Writing
 pub mod Access
 pub mod Loads
 pub mod Stores
+pub mod Numbers

@@ -5,10 +5,10 @@ use mathlib.Core.List.{List, [], _∷_}
 use mathlib.Core.Logic.{⊎-elim}
 use Prim.Native.Nat.{ℕ, _+_, _/_, _%_, _^_, _≤_, _<_}
 use native.Mathlib.Omega.{arith}
-use borrow.Author.Tests.{lt-ltb, le-leb, lt-leb}
+use borrow.Author.Tests.{lt-ltb}
 use denote.Enum.Declared.{tagOf}
 use types.Run.{OneOf}
-use lib.Dec.{eqb, leb, ltb}
+use lib.Dec.{eqb, ltb}
 use lib.IntN.{ℤ}
 use mir.Syntax.{w64}
 use mir.Val.{SFits, toZ, ofZ}
@@ -20,6 +20,8 @@ use Rattle.utils.specs.declared.Width.{Width}
 use Rattle.utils.specs.declared.Width.the-variants.{Byte, Byte2, Byte4, Byte8}
 use Rattle.utils.proofs.Signed.{code-is}
 use Rattle.utils.proofs.Width.{the-type}
+use Rattle.registers.specs.Numbers.{areValid}
+use Rattle.registers.proofs.Numbers.{valid}
 use Rattle.forms.specs.declared.Wrote.{Wrote}
 use Rattle.forms.specs.declared.Wrote.the-variants.{Word, Refused}
 use Rattle.forms.specs.Layout.{Layout, Operand, imm, rd, rs1, rs2, funct, csr, short, all, holds, build}
@@ -30,15 +32,12 @@ use Rattle.forms.proofs.Facts.{is, isnt, under, over}
 use Rattle.forms.proofs.Choices.{Told, exactly, such, KnownAs, picks, drops, by-operands}
 use Rattle.memory_decoder.specs.declared.LoadInstr.{LoadInstr}
 use Rattle.memory_decoder.specs.declared.StoreInstr.{StoreInstr}
+use Rattle.memory_decoder.specs.Access.{unwritten}
 use Rattle.memory_decoder.specs.Forms.{loads, stores, c-word, c-double, c-lw, c-ld, c-sw, c-sd}
 use Rattle.memory_decoder.specs.Funct3.{sizeOf, funct3Of}
 use Rattle.memory_decoder.specs.Load as Load
 use Rattle.memory_decoder.specs.Store as Store
-use Rattle.memory_encoder.specs.LoadStore.{Compressed, parts, stepped}
-
-and-false : (b : Bool) → (b && false) ≡ false
-and-false true = refl
-and-false false = refl
+use Rattle.memory_encoder.specs.LoadStore.{Compressed, operands, stepped}
 
 -- ---- what is known of the operands settles the line: of the register, the base, funct and `short`
 abbrev loadTold : Told → Told → Told → Told → Operand → Told
@@ -74,8 +73,8 @@ module _ (r b f s : Told) where
       by-operands stores Store.speech refl i (storeTold r b f s) (elim [ imm ↦ tt | rd ↦ refl | rs1 ↦ hb | rs2 ↦ hr | funct ↦ hf | csr ↦ refl | short ↦ hs ]) e
 
 -- nothing; a register; one above 31; one of the eight of three bits; none of them
-abbrev pub any : Told
-any = such []
+abbrev pub anything : Told
+anything = such []
 
 abbrev pub low : Told
 low = such (under 5 ∷ [])
@@ -102,15 +101,13 @@ module _ (x : ℕ) where
   is-other : x ≤ 31 → (x / 8 ≡ 1 → ⊥) → KnownAs x other
   is-other h e = (λ q. e (omega arith), tt)
 
--- the number of the refusal, by the two registers
-pub low-why : (x b : ℕ) → x ≤ 31 → b ≤ 31 → Refused 9 ≡ Refused (cond (leb x 31 && leb b 31) 9 6)
-low-why x b h l = simp (le-leb x 31 h, le-leb b 31 l)
+-- the refusal of an instruction that is no line, by its two registers
+module _ (x b : ℕ) where
+  pub nine : areValid x b ≡ true → Refused 9 ≡ Refused (unwritten x b)
+  nine e = ap (λ (v : Bool). Refused (cond v 9 6)) (sym e)
 
-pub past-why : (x b : ℕ) → 31 < x → Refused 6 ≡ Refused (cond (leb x 31 && leb b 31) 9 6)
-past-why x b h = simp (lt-leb x 31 h)
-
-pub base-why : (x b : ℕ) → 31 < b → Refused 6 ≡ Refused (cond (leb x 31 && leb b 31) 9 6)
-base-why x b h = simp (lt-leb b 31 h, and-false)
+  pub six : areValid x b ≡ false → Refused 6 ≡ Refused (unwritten x b)
+  six e = ap (λ (v : Bool). Refused (cond v 9 6)) (sym e)
 
 -- ---- the word of the code that was found
 -- the answer of the code's last match
@@ -171,41 +168,43 @@ module _ (f x b : ℕ) (z : ℤ) where
           (store ∙ ap (λ (v : ℕ). put (within M (codeDef 2048 z)) (word v (twos 2048 z))) (sym u)) t o p;
     }
 
-    pub word-arm : len ≡ Byte4 → c ≡ stepped 4 128 (codeDef 2048 (toZ w64 (ofZ w64 z))) → r ≡ putCode (λ n. build (c-word f rd) (parts x b f n)) k → Compressed f x b z len r
+    pub word-arm : len ≡ Byte4 → c ≡ stepped 4 128 (codeDef 2048 (toZ w64 (ofZ w64 z))) → r ≡ putCode (λ n. build (c-word f rd) (operands x b f n)) k → Compressed f x b z len r
     word-arm =
-        by-arm Byte4 (λ g n. build (c-word g rd) (parts x b g n)) c-lw c-sw 4 128 (λ n. refl) (λ n. refl)
+        by-arm Byte4 (λ g n. build (c-word g rd) (operands x b g n)) c-lw c-sw 4 128 (λ n. refl) (λ n. refl)
         (load-line eight eight (exactly 2) (exactly 1) (Load.mk x b z Byte4 true false) (is-eight x d) (is-eight b e) refl refl refl)
         (store-line eight eight (exactly 2) (exactly 1) (Store.mk x b z Byte4 true) (is-eight x d) (is-eight b e) refl refl refl)
 
-    pub double-arm : len ≡ Byte8 → c ≡ stepped 8 256 (codeDef 2048 (toZ w64 (ofZ w64 z))) → r ≡ putCode (λ n. build (c-double (f + 1) rd) (parts x b (f + 1) n)) k → Compressed f x b z len r
+    pub double-arm : len ≡ Byte8 → c ≡ stepped 8 256 (codeDef 2048 (toZ w64 (ofZ w64 z))) → r ≡ putCode (λ n. build (c-double (f + 1) rd) (operands x b (f + 1) n)) k → Compressed f x b z len r
     double-arm =
-        by-arm Byte8 (λ g n. build (c-double (g + 1) rd) (parts x b (g + 1) n)) c-ld c-sd 8 256 (λ n. refl) (λ n. refl)
+        by-arm Byte8 (λ g n. build (c-double (g + 1) rd) (operands x b (g + 1) n)) c-ld c-sd 8 256 (λ n. refl) (λ n. refl)
         (load-line eight eight (exactly 3) (exactly 1) (Load.mk x b z Byte8 true false) (is-eight x d) (is-eight b e) refl refl refl)
         (store-line eight eight (exactly 3) (exactly 1) (Store.mk x b z Byte8 true) (is-eight x d) (is-eight b e) refl refl refl)
 
   -- a width that no compressed form has, or a register that is none of the eight
-  module _ (l : x ≤ 31) (m : b ≤ 31) where
-    refused : (len : Width) → writeOf loads Load.speech (Load.mk x b z len true false) ≡ Refused (Load.whyNot (Load.mk x b z len true false))
-        → writeOf stores Store.speech (Store.mk x b z len true) ≡ Refused (Store.whyNot (Store.mk x b z len true)) → Compressed f x b z len (Refused 9)
-    refused len load store = let w = low-why x b l m in record { as-load = λ _. w ∙ sym load; as-store = λ _. w ∙ sym store }
+  module _ (v : areValid x b ≡ true) where
+    refused : (len : Width) → writeOf loads Load.speech (Load.mk x b z len true false) ≡ Refused (unwritten x b)
+        → writeOf stores Store.speech (Store.mk x b z len true) ≡ Refused (unwritten x b) → Compressed f x b z len (Refused 9)
+    refused len load store = record { as-load = λ _. nine x b v ∙ sym load; as-store = λ _. nine x b v ∙ sym store }
 
     pub no-width : (len : Width) → sizeOf len < 2 → Compressed f x b z len (Refused 9)
     no-width len h =
         refused len
-        (load-line any any (such (is 1 1 0b0 ∷ [])) (exactly 1) (Load.mk x b z len true false) tt tt (omega arith, tt) refl refl)
-        (store-line any any (such (is 1 1 0b0 ∷ [])) (exactly 1) (Store.mk x b z len true) tt tt (omega arith, tt) refl refl)
+        (load-line anything anything (such (is 1 1 0b0 ∷ [])) (exactly 1) (Load.mk x b z len true false) tt tt (omega arith, tt) refl refl)
+        (store-line anything anything (such (is 1 1 0b0 ∷ [])) (exactly 1) (Store.mk x b z len true) tt tt (omega arith, tt) refl refl)
 
     pub no-register : (len : Width) → (x / 8 ≡ 1 → ⊥) → Compressed f x b z len (Refused 9)
     no-register len e =
+        let h = is-other x (valid x b v .0) e in
         refused len
-        (load-line other any any (exactly 1) (Load.mk x b z len true false) (is-other x l e) tt tt refl refl)
-        (store-line other any any (exactly 1) (Store.mk x b z len true) (is-other x l e) tt tt refl refl)
+        (load-line other anything anything (exactly 1) (Load.mk x b z len true false) h tt tt refl refl)
+        (store-line other anything anything (exactly 1) (Store.mk x b z len true) h tt tt refl refl)
 
     pub no-base : (len : Width) → (b / 8 ≡ 1 → ⊥) → Compressed f x b z len (Refused 9)
     no-base len e =
+        let h = is-other b (valid x b v .1) e in
         refused len
-        (load-line any other any (exactly 1) (Load.mk x b z len true false) tt (is-other b m e) tt refl refl)
-        (store-line any other any (exactly 1) (Store.mk x b z len true) tt (is-other b m e) tt refl refl)
+        (load-line anything other anything (exactly 1) (Load.mk x b z len true false) tt h tt refl refl)
+        (store-line anything other anything (exactly 1) (Store.mk x b z len true) tt h tt refl refl)
 
 -- ---- the last arm of a match on the width has the first two
 pub narrow : (len : Width) → OneOf (0 ∷ 1 ∷ []) (tagOf the-type len) → sizeOf len < 2

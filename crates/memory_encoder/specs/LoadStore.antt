@@ -1,5 +1,5 @@
 -- What a load and a store are written as, by the tables that they are read by (`memory_decoder`): document 01's refusals 6, 9 and 10. After that, what
--- the encoder's parts answer.
+-- the encoder's own functions answer.
 use Prim.Native.Nat.{ℕ, _%_}
 use mathlib.Core.Path.{_≡_}
 use mathlib.Core.Bool.{true, false, _&&_, cond}
@@ -25,16 +25,16 @@ encodeLoadDef p i = writeOf loads Load.speech i
 unfoldable pub encodeStoreDef : Profile → StoreInstr → Wrote
 encodeStoreDef p i = writeOf stores Store.speech i
 
--- ---- the parts
+-- ---- what the encoder's own functions answer
 -- operands by their numbers: x is a load's rd or a store's rs2
-abbrev pub parts : ℕ → ℕ → ℕ → ℕ → Operand → ℕ
-parts x b f n imm = n
-parts x b f n rd = x
-parts x b f n rs1 = b
-parts x b f n rs2 = x
-parts x b f n funct = f
-parts x b f n csr = 0
-parts x b f n short = 0
+abbrev pub operands : ℕ → ℕ → ℕ → ℕ → Operand → ℕ
+operands x b f n imm = n
+operands x b f n rd = x
+operands x b f n rs1 = b
+operands x b f n rs2 = x
+operands x b f n funct = f
+operands x b f n csr = 0
+operands x b f n short = 0
 
 -- what a compressed load or store of the register x is written as, by the funct3 f of its 32-bit form
 pub record Compressed (f x b : ℕ) (z : ℤ) (len : Width) (r : Wrote) : Type 0 where

@@ -1,12 +1,14 @@
 // Loads and stores as words: the way back from the load and store readings of the crate `memory_decoder`. An instruction may hold any
 // numbers; one that has no word is refused with document 01's numbers.
 ghost use mathlib.Core.Path.{_≡_};
-ghost use Prim.Native.Nat.{_≤_, _<_};
+ghost use mathlib.Core.Bool.{true};
+ghost use Prim.Native.Nat.{_<_};
 ghost use Rattle.utils.specs.Signed.{codeDef};
+ghost use Rattle.registers.specs.Numbers.{areValid};
 ghost use Rattle.forms.specs.Layout.{build, rd};
 ghost use Rattle.memory_decoder.specs.Forms.{load, store, c-word, c-double};
 ghost use Rattle.memory_decoder.specs.Funct3.{sizeOf, funct3Of};
-ghost use Rattle.memory_encoder.specs.LoadStore.{encodeLoadDef, encodeStoreDef, Compressed, parts, stepped};
+ghost use Rattle.memory_encoder.specs.LoadStore.{encodeLoadDef, encodeStoreDef, Compressed, operands, stepped};
 use forms::Wrote;
 use memory_decoder::LoadInstr;
 use memory_decoder::StoreInstr;
@@ -22,10 +24,7 @@ pub fn encode_load(ctx: Profile, load: LoadInstr) -> Wrote
     let rs1 = load.rs1.0;
     let imm = load.imm;
     let len = load.len;
-    if 31 < rd {
-        return Wrote::Refused(refusals::REGISTER);
-    }
-    if 31 < rs1 {
+    if !registers::are_valid(rd, rs1) {
         return Wrote::Refused(refusals::REGISTER);
     }
     if load.is_compressed {
@@ -53,10 +52,7 @@ pub fn encode_store(ctx: Profile, store: StoreInstr) -> Wrote
     let rs1 = store.rs1.0;
     let imm = store.imm;
     let len = store.len;
-    if 31 < rs2 {
-        return Wrote::Refused(refusals::REGISTER);
-    }
-    if 31 < rs1 {
+    if !registers::are_valid(rs2, rs1) {
         return Wrote::Refused(refusals::REGISTER);
     }
     if store.is_compressed {
@@ -75,7 +71,7 @@ const HALF: u32 = 2048;
 // A compressed load or store of the register `reg`: `func3` is that of the 32-bit form, and the 64-bit form has the next. Both
 // registers are x8 to x15.
 fn encode_compressed(func3: usize, reg: usize, base: usize, imm: isize, len: Width) -> Wrote
-    requires { ⌜ (func3 < 7) × ((reg ≤ 31) × (base ≤ 31)) ⌝ }
+    requires { ⌜ (func3 < 7) × (areValid reg base ≡ true) ⌝ }
     ensures { λ r. ⌜ Compressed func3 reg base imm len r ⌝ }
 {
     if reg / 8 != 1 {
@@ -117,7 +113,7 @@ fn offset(imm: isize, step: usize, limit: usize) -> Code
 // C.LW and C.SW, by `func3`.
 fn compressed_word(func3: usize, reg: usize, base: usize, imm: usize) -> u64
     requires { ⌜ func3 < 8 ⌝ }
-    ensures { λ r. ⌜ r ≡ build (c-word func3 rd) (parts reg base func3 imm) ⌝ }
+    ensures { λ r. ⌜ r ≡ build (c-word func3 rd) (operands reg base func3 imm) ⌝ }
 {
     let imm_2 = (imm >> 2) & 0b1;
     let imm_5_3 = (imm >> 3) & 0b111;
@@ -133,7 +129,7 @@ fn compressed_word(func3: usize, reg: usize, base: usize, imm: usize) -> u64
 // C.LD and C.SD, by `func3`.
 fn compressed_double(func3: usize, reg: usize, base: usize, imm: usize) -> u64
     requires { ⌜ func3 < 8 ⌝ }
-    ensures { λ r. ⌜ r ≡ build (c-double func3 rd) (parts reg base func3 imm) ⌝ }
+    ensures { λ r. ⌜ r ≡ build (c-double func3 rd) (operands reg base func3 imm) ⌝ }
 {
     let imm_5_3 = (imm >> 3) & 0b111;
     let imm_7_6 = (imm >> 6) & 0b11;
@@ -146,7 +142,7 @@ fn compressed_double(func3: usize, reg: usize, base: usize, imm: usize) -> u64
 
 // A 32-bit load.
 fn load_word(rd: usize, rs1: usize, func3: usize, imm: usize) -> u64
-    ensures { λ r. ⌜ r ≡ build load (parts rd rs1 func3 imm) ⌝ }
+    ensures { λ r. ⌜ r ≡ build load (operands rd rs1 func3 imm) ⌝ }
 {
     let imm_11_0 = imm & 0b111111111111;
     ((imm_11_0 << 20)
@@ -158,7 +154,7 @@ fn load_word(rd: usize, rs1: usize, func3: usize, imm: usize) -> u64
 
 // A 32-bit store.
 fn store_word(rs2: usize, rs1: usize, func3: usize, imm: usize) -> u64
-    ensures { λ r. ⌜ r ≡ build store (parts rs2 rs1 func3 imm) ⌝ }
+    ensures { λ r. ⌜ r ≡ build store (operands rs2 rs1 func3 imm) ⌝ }
 {
     let imm_11_5 = (imm >> 5) & 0b1111111;
     let imm_4_0 = imm & 0b11111;

@@ -12,10 +12,12 @@ encode-compressed-spec =
     (tie.spec
     (λ c.
     let s = c .before in
-    no-register (s .args .func3) (s .args .reg) (s .args .base) (s .args .imm) (s .pre .1 .0) (s .pre .1 .1) (s .args .len) (c .if1 .taken))
+    let a = s .args in
+    no-register (a .func3) (a .reg) (a .base) (a .imm) (s .pre .1) (a .len) (c .if1 .taken))
     (λ c.
     let s = c .before .before in
-    no-base (s .args .func3) (s .args .reg) (s .args .base) (s .args .imm) (s .pre .1 .0) (s .pre .1 .1) (s .args .len) (c .if2 .taken))
+    let a = s .args in
+    no-base (a .func3) (a .reg) (a .base) (a .imm) (s .pre .1) (a .len) (c .if2 .taken))
     (λ c. search needs)
     (λ c κs. search needs)
     (λ c. search needs)
@@ -28,25 +30,38 @@ encode-compressed-spec =
     (λ c κs. search needs)
     (λ c. search needs)
     (λ c.
-    let o = c .before .before .before .before in
-    let s = o .before .before .before .before .before in
-    word-arm (s .args .func3) (s .args .reg) (s .args .base) (s .args .imm) (s .fits .imm) (o .before .before .before .before .if1 .left) (o .before .before .before .if2 .left) (c .before .before .code .given .1)
-    (o .before .enum-told .given .1) (o .offset .ensures) (λ j. Word (c .compressed-word .ensures j)))
+    let found = c .before .before .before .before in
+    let width = found .before in
+    let two = width .before .before in
+    let one = two .before in
+    let s = one .before in
+    let a = s .args in
+    word-arm (a .func3) (a .reg) (a .base) (a .imm) (s .fits .imm) (one .if1 .left) (two .if2 .left) (c .before .before .code .given .1) (width .enum-told .given .1) (found .offset .ensures) (λ j. Word (c .compressed-word .ensures j)))
     (λ c.
-    let o = c .before .before in
-    let s = o .before .before .before .before .before in
-    word-arm (s .args .func3) (s .args .reg) (s .args .base) (s .args .imm) (s .fits .imm) (o .before .before .before .before .if1 .left) (o .before .before .before .if2 .left) (c .enum-told2 .given .1)
-    (o .before .enum-told .given .1) (o .offset .ensures) refl)
+    let found = c .before .before in
+    let width = found .before in
+    let two = width .before .before in
+    let one = two .before in
+    let s = one .before in
+    let a = s .args in
+    word-arm (a .func3) (a .reg) (a .base) (a .imm) (s .fits .imm) (one .if1 .left) (two .if2 .left) (c .enum-told2 .given .1) (width .enum-told .given .1) (found .offset .ensures) refl)
     (λ c.
-    let o = c .before .before .before .before in
-    let s = o .before .before .before .before .before in
-    double-arm (s .args .func3) (s .args .reg) (s .args .base) (s .args .imm) (s .fits .imm) (o .before .before .before .before .if1 .left) (o .before .before .before .if2 .left) (c .before .before .code2 .given .1)
-    (o .before .enum-told3 .given .1) (o .offset2 .ensures) (λ j. Word (c .compressed-double .ensures j)))
+    let found = c .before .before .before .before in
+    let width = found .before in
+    let two = width .before .before in
+    let one = two .before in
+    let s = one .before in
+    let a = s .args in
+    double-arm (a .func3) (a .reg) (a .base) (a .imm) (s .fits .imm) (one .if1 .left) (two .if2 .left) (c .before .before .code2 .given .1) (width .enum-told3 .given .1) (found .offset2 .ensures) (λ j. Word (c .compressed-double .ensures j)))
     (λ c.
-    let o = c .before .before in
-    let s = o .before .before .before .before .before in
-    double-arm (s .args .func3) (s .args .reg) (s .args .base) (s .args .imm) (s .fits .imm) (o .before .before .before .before .if1 .left) (o .before .before .before .if2 .left) (c .enum-told4 .given .1)
-    (o .before .enum-told3 .given .1) (o .offset2 .ensures) refl)
+    let found = c .before .before in
+    let width = found .before in
+    let two = width .before .before in
+    let one = two .before in
+    let s = one .before in
+    let a = s .args in
+    double-arm (a .func3) (a .reg) (a .base) (a .imm) (s .fits .imm) (one .if1 .left) (two .if2 .left) (c .enum-told4 .given .1) (width .enum-told3 .given .1) (found .offset2 .ensures) refl)
     (λ c.
     let s = c .before .before .before in
-    no-width (s .args .func3) (s .args .reg) (s .args .base) (s .args .imm) (s .pre .1 .0) (s .pre .1 .1) (s .args .len) (narrow (s .args .len) (c .match .keys3))))
+    let a = s .args in
+    no-width (a .func3) (a .reg) (a .base) (a .imm) (s .pre .1) (a .len) (narrow (a .len) (c .match .keys3))))

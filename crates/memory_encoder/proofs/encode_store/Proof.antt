@@ -2,14 +2,18 @@
 use mathlib.Core.Path.{_≡_, refl, sym, ap, _∙_}
 use mathlib.Core.Bool.{true, false}
 use mathlib.Core.List.{[], _∷_}
-use Prim.Native.Nat.{ℕ, _≤_, _<_}
+use Prim.Native.Nat.{ℕ}
+use native.Mathlib.Omega.{arith}
 use borrow.Author.Needs.{needs}
+use borrow.Author.Tests.{not-true, not-false}
 use lib.IntN.{ℤ}
 use mir.Syntax.{w64}
 use mir.Val.{SFits, toZ, ofZ}
 use mir.ValLaws.{toZ-ofZ}
 use Rattle.utils.specs.Signed.{twos, codeDef}
 use Rattle.utils.specs.declared.Code.{Code}
+use Rattle.registers.specs.Numbers.{areValid}
+use Rattle.registers.proofs.Numbers.{valid, not-valid}
 use Rattle.forms.specs.declared.Wrote.{Wrote}
 use Rattle.forms.specs.declared.Wrote.the-variants.{Word, Refused}
 use Rattle.forms.specs.Layout.{build}
@@ -18,61 +22,80 @@ use Rattle.forms.specs.Table.{form}
 use Rattle.forms.proofs.Facts.{under}
 use Rattle.forms.proofs.Choices.{exactly, such}
 use Rattle.memory_decoder.specs.declared.StoreInstr.{StoreInstr}
+use Rattle.memory_decoder.specs.Access.{unwritten}
 use Rattle.memory_decoder.specs.Forms.{stores, store}
 use Rattle.memory_decoder.specs.Funct3.{sizeOf}
 use Rattle.memory_decoder.specs.Store.{speech, mk}
-use Rattle.memory_encoder.specs.LoadStore.{encodeStoreDef, parts}
+use Rattle.memory_encoder.specs.LoadStore.{encodeStoreDef, operands}
 use Rattle.memory_encoder.proofs.Funct3.{size-lt}
-use Rattle.memory_encoder.proofs.Writing.{store-line, any, low, past, is-low, is-past, past-why, base-why, putCode, put-long, stored}
+use Rattle.memory_encoder.proofs.Writing.{store-line, anything, low, past, is-low, is-past, six, putCode, put-long, stored}
 use Rattle.memory_encoder.proofs.encode_store.Statement.{statement}
 use Rattle.memory_encoder.proofs.encode_store.Tie as tie
 
 -- a register above 31
-past-rs2 : (i : StoreInstr) → 31 < i .rs2 .0 → Refused 6 ≡ writeOf stores speech i
-past-rs2 i h = past-why (i .rs2 .0) (i .rs1 .0) h ∙ sym (store-line past any any any i (is-past _ h) tt tt tt refl)
-
-past-rs1 : (i : StoreInstr) → 31 < i .rs1 .0 → Refused 6 ≡ writeOf stores speech i
-past-rs1 i h = base-why (i .rs2 .0) (i .rs1 .0) h ∙ sym (store-line any past any any i tt (is-past _ h) tt tt refl)
+no-registers : (i : StoreInstr) → areValid (i .rs2 .0) (i .rs1 .0) ≡ false → Refused 6 ≡ writeOf stores speech i
+no-registers i e =
+    six (i .rs2 .0) (i .rs1 .0) e
+    ∙ sym
+    (not-valid {X = writeOf stores speech i ≡ Refused (unwritten (i .rs2 .0) (i .rs1 .0))} (i .rs2 .0) (i .rs1 .0) e
+    (λ h. store-line past anything anything anything i (is-past _ h) tt tt tt refl) (λ h. store-line anything past anything anything i tt (is-past _ h) tt tt refl))
 
 -- a compressed store
-by-short : (i : StoreInstr) → SFits w64 (i .imm) → i .«is_compressed» ≡ true → {r : Wrote}
+by-short : (i : StoreInstr) → i .«is_compressed» ≡ true → SFits w64 (i .imm) → {r : Wrote}
     → r ≡ writeOf stores speech (mk (i .rs2 .0) (i .rs1 .0) (toZ w64 (ofZ w64 (i .imm))) (i .len) true) → r ≡ writeOf stores speech i
-by-short i fits c e =
-    e ∙ ap (λ (z : ℤ). writeOf stores speech (mk (i .rs2 .0) (i .rs1 .0) z (i .len) true)) (toZ-ofZ w64 (i .imm) fits) ∙ ap (writeOf stores speech) (stored i c)
+by-short i short fits e =
+    e ∙ ap (λ (z : ℤ). writeOf stores speech (mk (i .rs2 .0) (i .rs1 .0) z (i .len) true)) (toZ-ofZ w64 (i .imm) fits) ∙ ap (writeOf stores speech) (stored i short)
 
 -- a store of 32 bits; f is its funct3
-module _ (i : StoreInstr) (f : ℕ) (e : f ≡ sizeOf (i .len)) (long : i .«is_compressed» ≡ false) (l : i .rs2 .0 ≤ 31) (m : i .rs1 .0 ≤ 31) where
+module _ (i : StoreInstr) (long : i .«is_compressed» ≡ false) (v : areValid (i .rs2 .0) (i .rs1 .0) ≡ true) (f : ℕ) (e : f ≡ sizeOf (i .len)) where
   the-line : writeAs speech i (form store) ≡ writeOf stores speech i
-  the-line = sym (store-line low low (such (under 2 ∷ [])) (exactly 0) i (is-low _ l) (is-low _ m) (size-lt (i .len), tt) (ap bitOf long) refl)
+  the-line =
+      let r = valid (i .rs2 .0) (i .rs1 .0) v in
+      sym (store-line low low (such (under 2 ∷ [])) (exactly 0) i (is-low _ (r .0)) (is-low _ (r .1)) (size-lt (i .len), tt) (ap bitOf long) refl)
 
   -- c is what `code_of` found, k the arm, r its answer
   by-code : SFits w64 (i .imm) → {c k : Code} {r : Wrote} → c ≡ codeDef 2048 (toZ w64 (ofZ w64 (i .imm))) → c ≡ k
-      → r ≡ putCode (λ n. build store (parts (i .rs2 .0) (i .rs1 .0) f n)) k → r ≡ writeOf stores speech i
+      → r ≡ putCode (λ n. build store (operands (i .rs2 .0) (i .rs1 .0) f n)) k → r ≡ writeOf stores speech i
   by-code fits d q p =
-      put-long store (λ n. build store (parts (i .rs2 .0) (i .rs1 .0) f n)) (i .imm) fits q p (λ n. refl) d
-      ∙ ap (λ (g : ℕ). put (within store (codeDef 2048 (i .imm))) (build store (parts (i .rs2 .0) (i .rs1 .0) g (twos 2048 (i .imm))))) e ∙ the-line
+      put-long store (λ n. build store (operands (i .rs2 .0) (i .rs1 .0) f n)) (i .imm) fits q p (λ n. refl) d
+      ∙ ap (λ (g : ℕ). put (within store (codeDef 2048 (i .imm))) (build store (operands (i .rs2 .0) (i .rs1 .0) g (twos 2048 (i .imm))))) e ∙ the-line
 
 pub encode-store-spec : {M : Type 1} → statement M
 unfolding encodeStoreDef
 encode-store-spec =
     tie.close
     (tie.spec
-    (λ c. past-rs2 (c .before .before .args .store) (c .if1 .taken))
-    (λ c. past-rs1 (c .before .before .before .args .store) (c .if2 .taken))
     (λ c κs. search needs)
     (λ c.
-    let i = c .before .before .before .before .before .args .store in
-    by-short i (record { sfits = c .before .before .before .before .struct-told .given .1 .1 .0 .1 }) (c .before .if3 .taken) (c .encode-compressed .ensures .as-store refl))
+    let call = c .before in
+    no-registers (call .before .before .args .store) (sym (call .are-valid .ensures) ∙ not-true _ (c .if1 .taken)))
+    (λ c κs.
+    let regs = c .before in
+    (omega arith, sym (regs .before .are-valid .ensures) ∙ not-false _ (regs .if1 .left)))
+    (λ c.
+    let short = c .before in
+    let told = short .before .before .before in
+    by-short (told .before .args .store) (short .if2 .taken) (record { sfits = told .struct-told .given .1 .1 .0 .1 }) (c .encode-compressed .ensures .as-store refl))
     (λ c κs. search needs)
     (λ c κs. search needs)
     (λ c. search needs)
     (λ c κs. search needs)
     (λ c. search needs)
     (λ c.
-    let g = c .before .before .before .before .before in
-    by-code (g .before .before .before .before .before .args .store) _ (g .size-of .ensures) (g .before .if3 .left) (g .before .before .before .if1 .left) (g .before .before .if2 .left) (record { sfits = g .before .before .before .before .struct-told .given .1 .1 .0 .1 })
-    (c .before .before .before .before .code-of .ensures) (c .before .before .code .given .1) (λ j. Word (c .store-word .ensures j)))
+    let found = c .before .before .before .before in
+    let funct = found .before in
+    let long = funct .before in
+    let regs = long .before in
+    let call = regs .before in
+    let told = call .before in
+    by-code (told .before .args .store) (long .if2 .left) (sym (call .are-valid .ensures) ∙ not-false _ (regs .if1 .left)) _ (funct .size-of .ensures)
+    (record { sfits = told .struct-told .given .1 .1 .0 .1 }) (found .code-of .ensures) (c .before .before .code .given .1) (λ j. Word (c .store-word .ensures j)))
     (λ c.
-    let g = c .before .before .before in
-    by-code (g .before .before .before .before .before .args .store) _ (g .size-of .ensures) (g .before .if3 .left) (g .before .before .before .if1 .left) (g .before .before .if2 .left) (record { sfits = g .before .before .before .before .struct-told .given .1 .1 .0 .1 })
-    (c .before .before .code-of .ensures) (c .enum-told .given .1) refl))
+    let found = c .before .before in
+    let funct = found .before in
+    let long = funct .before in
+    let regs = long .before in
+    let call = regs .before in
+    let told = call .before in
+    by-code (told .before .args .store) (long .if2 .left) (sym (call .are-valid .ensures) ∙ not-false _ (regs .if1 .left)) _ (funct .size-of .ensures)
+    (record { sfits = told .struct-told .given .1 .1 .0 .1 }) (found .code-of .ensures) (c .enum-told .given .1) refl))
