@@ -82,11 +82,12 @@ pub fn decode_compressed_load(ctx: Profile, raw: usize) -> LoadRead
 {
     match extract_last_two_bits(raw) {
         // Register-based load and store instructions for C set start with 0b00
-        0b00 => decode_register_based_compressed_load(ctx, raw),
+        0b00 => {}
         // Stack-based load and store instructions for C set start with 0b10
-        0b10 => LoadRead::Refused(refusals::STACK_FORM),
-        _ => LoadRead::Refused(refusals::NOT_THE_FORM),
+        0b10 => return LoadRead::Refused(refusals::STACK_FORM),
+        _ => return LoadRead::Refused(refusals::NOT_THE_FORM),
     }
+    decode_register_based_compressed_load(ctx, raw)
 }
 
 fn decode_register_based_compressed_load(ctx: Profile, raw: usize) -> LoadRead
@@ -124,11 +125,12 @@ pub fn decode_compressed_store(ctx: Profile, raw: usize) -> StoreRead
 {
     match extract_last_two_bits(raw) {
         // Register-based load and store instructions for C set start with 0b00
-        0b00 => decode_register_based_compressed_store(ctx, raw),
+        0b00 => {}
         // Stack-based load and store instructions for C set start with 0b10
-        0b10 => StoreRead::Refused(refusals::STACK_FORM),
-        _ => StoreRead::Refused(refusals::NOT_THE_FORM),
+        0b10 => return StoreRead::Refused(refusals::STACK_FORM),
+        _ => return StoreRead::Refused(refusals::NOT_THE_FORM),
     }
+    decode_register_based_compressed_store(ctx, raw)
 }
 
 fn decode_register_based_compressed_store(ctx: Profile, raw: usize) -> StoreRead

@@ -17,12 +17,6 @@ decode-compressed-store-spec =
     tie.close
     (tie.spec
     (λ c κs. search needs)
-    (λ c κs. search needs)
-    (λ c.
-    let m = c .before in
-    let w = m .before .before .args .raw in
-    let low : w % 2 ^ 2 ≡ 0b00 = sym (m .before .extract-last-two-bits .ensures) ∙ m .match .keys1 in
-    short-reads storing w (λ e. omega arith) (c .decode-register-based-compressed-store .ensures))
     (λ c.
     let w = c .before .before .args .raw in
     let low : w % 2 ^ 2 ≡ 0b10 = sym (c .before .extract-last-two-bits .ensures) ∙ c .match .keys2 in
@@ -32,4 +26,10 @@ decode-compressed-store-spec =
     let low = c .before .extract-last-two-bits .ensures in
     let no = c .match .rest in
     by-length w _ _ (λ e. refl)
-    (λ long. reads storing w (isnt 0 2 0b11 ∷ isnt 0 2 0b00 ∷ isnt 0 2 0b10 ∷ []) (long, (λ e. no .0 .1 (low ∙ e), (λ e. no .1 (low ∙ e), tt))) refl)))
+    (λ long. reads storing w (isnt 0 2 0b11 ∷ isnt 0 2 0b00 ∷ isnt 0 2 0b10 ∷ []) (long, (λ e. no .0 .1 (low ∙ e), (λ e. no .1 (low ∙ e), tt))) refl))
+    (λ c κs. search needs)
+    (λ c.
+    let m = c .before in
+    let w = m .before .before .args .raw in
+    let low : w % 2 ^ 2 ≡ 0b00 = sym (m .before .extract-last-two-bits .ensures) ∙ m .match .keys1 in
+    short-reads storing w (λ e. omega arith) (c .decode-register-based-compressed-store .ensures)))
