@@ -36,7 +36,8 @@ encode-compressed-spec =
     let one = two .before in
     let s = one .before in
     let a = s .args in
-    word-arm (a .func3) (a .reg) (a .base) (a .imm) (s .fits .imm) (one .if1 .left) (two .if2 .left) (c .before .before .code .given .1) (width .enum-told .given .1) (found .offset .ensures) (λ j. Word (c .compressed-word .ensures j)))
+    word-arm (a .func3) (a .reg) (a .base) (a .imm) (s .fits .imm)
+    (one .if1 .left) (two .if2 .left) (c .before .before .code .given .1) (width .enum-told .given .1) (found .offset .ensures) (λ j. Word (c .compressed-word .ensures j)))
     (λ c.
     let found = c .before .before in
     let width = found .before in
@@ -44,7 +45,8 @@ encode-compressed-spec =
     let one = two .before in
     let s = one .before in
     let a = s .args in
-    word-arm (a .func3) (a .reg) (a .base) (a .imm) (s .fits .imm) (one .if1 .left) (two .if2 .left) (c .enum-told2 .given .1) (width .enum-told .given .1) (found .offset .ensures) refl)
+    word-arm (a .func3) (a .reg) (a .base) (a .imm) (s .fits .imm)
+    (one .if1 .left) (two .if2 .left) (c .enum-told2 .given .1) (width .enum-told .given .1) (found .offset .ensures) refl)
     (λ c.
     let found = c .before .before .before .before in
     let width = found .before in
@@ -52,7 +54,8 @@ encode-compressed-spec =
     let one = two .before in
     let s = one .before in
     let a = s .args in
-    double-arm (a .func3) (a .reg) (a .base) (a .imm) (s .fits .imm) (one .if1 .left) (two .if2 .left) (c .before .before .code2 .given .1) (width .enum-told3 .given .1) (found .offset2 .ensures) (λ j. Word (c .compressed-double .ensures j)))
+    double-arm (a .func3) (a .reg) (a .base) (a .imm) (s .fits .imm)
+    (one .if1 .left) (two .if2 .left) (c .before .before .code2 .given .1) (width .enum-told3 .given .1) (found .offset2 .ensures) (λ j. Word (c .compressed-double .ensures j)))
     (λ c.
     let found = c .before .before in
     let width = found .before in
@@ -60,7 +63,8 @@ encode-compressed-spec =
     let one = two .before in
     let s = one .before in
     let a = s .args in
-    double-arm (a .func3) (a .reg) (a .base) (a .imm) (s .fits .imm) (one .if1 .left) (two .if2 .left) (c .enum-told4 .given .1) (width .enum-told3 .given .1) (found .offset2 .ensures) refl)
+    double-arm (a .func3) (a .reg) (a .base) (a .imm) (s .fits .imm)
+    (one .if1 .left) (two .if2 .left) (c .enum-told4 .given .1) (width .enum-told3 .given .1) (found .offset2 .ensures) refl)
     (λ c.
     let s = c .before .before .before in
     let a = s .args in
