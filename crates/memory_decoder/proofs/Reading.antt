@@ -106,9 +106,9 @@ storing = record {
   number-none = λ n. refl;
 }
 
--- the answer to a word
-abbrev pub whole : {I R : Type 0} → Reading I R → ℕ → R
-whole F w = F .answer (readOf (F .table) (F .speech) w)
+-- its answer to a word
+abbrev pub answerTo : {I R : Type 0} → Reading I R → ℕ → R
+answerTo F w = F .answer (readOf (F .table) (F .speech) w)
 
 -- `unread` as tests of fields
 abbrev reasons : ℕ → List Reason
@@ -117,16 +117,16 @@ reasons opcode = reason 0 2 0b10 5 ∷ reason 0 7 opcode 4 ∷ []
 -- what the code knows of the word settles its answer
 module _ {I R : Type 0} (F : Reading I R) (w : ℕ) where
   pub reads : (fs : List Fact) → Known w fs → (settles fs (F .table) && clears fs (reasons (F .opcode))) ≡ true
-      → F .answer (readAs (F .speech) w (first (fits fs) (F .table) (whyOf fs (reasons (F .opcode)) 3))) ≡ whole F w
+      → F .answer (readAs (F .speech) w (first (fits fs) (F .table) (whyOf fs (reasons (F .opcode)) 3))) ≡ answerTo F w
   reads fs h e = ap (F .answer) (sym (by-facts (F .table) (F .speech) (F .fine) (reasons (F .opcode)) 3 (F .why) w fs h e))
 
   -- the same of a reader of one length of words, which answers 3 to the other
   module _ {r : R} where
-    pub long-reads : w % 2 ^ 2 ≡ 0b11 → r ≡ whole F w → r ≡ cond (isLong w) (whole F w) (F .answer (none 3))
-    long-reads e q = q ∙ sym (if-long w (whole F w) (F .answer (none 3)) e)
+    pub long-reads : w % 2 ^ 2 ≡ 0b11 → r ≡ answerTo F w → r ≡ cond (isLong w) (answerTo F w) (F .answer (none 3))
+    long-reads e q = q ∙ sym (if-long w (answerTo F w) (F .answer (none 3)) e)
 
-    pub short-reads : (w % 2 ^ 2 ≡ 0b11 → ⊥) → r ≡ whole F w → r ≡ cond (isLong w) (F .answer (none 3)) (whole F w)
-    short-reads e q = q ∙ sym (if-short w (F .answer (none 3)) (whole F w) e)
+    pub short-reads : (w % 2 ^ 2 ≡ 0b11 → ⊥) → r ≡ answerTo F w → r ≡ cond (isLong w) (F .answer (none 3)) (answerTo F w)
+    short-reads e q = q ∙ sym (if-short w (F .answer (none 3)) (answerTo F w) e)
 
 -- ---- the answers, part by part
 pub same-load : {d e a b : Register} {m n : ℤ} {k l : Width} {u v : Bool} (c : Bool) → d ≡ e → a ≡ b → m ≡ n → k ≡ l → u ≡ v

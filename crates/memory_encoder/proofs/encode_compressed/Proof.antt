@@ -30,14 +30,15 @@ encode-compressed-spec =
     (λ c κs. search needs)
     (λ c. search needs)
     (λ c.
-    let found = c .before .before .before .before in
+    let arm = c .before .before in
+    let found = arm .before .before in
     let width = found .before in
     let two = width .before .before in
     let one = two .before in
     let s = one .before in
     let a = s .args in
     word-arm (a .func3) (a .reg) (a .base) (a .imm) (s .fits .imm)
-    (one .if1 .left) (two .if2 .left) (c .before .before .code .given .1) (width .enum-told .given .1) (found .offset .ensures) (λ j. Word (c .compressed-word .ensures j)))
+    (one .if1 .left) (two .if2 .left) (arm .code .given .1) (width .enum-told .given .1) (found .offset .ensures) (λ j. Word (c .compressed-word .ensures j)))
     (λ c.
     let found = c .before .before in
     let width = found .before in
@@ -48,14 +49,15 @@ encode-compressed-spec =
     word-arm (a .func3) (a .reg) (a .base) (a .imm) (s .fits .imm)
     (one .if1 .left) (two .if2 .left) (c .enum-told2 .given .1) (width .enum-told .given .1) (found .offset .ensures) refl)
     (λ c.
-    let found = c .before .before .before .before in
+    let arm = c .before .before in
+    let found = arm .before .before in
     let width = found .before in
     let two = width .before .before in
     let one = two .before in
     let s = one .before in
     let a = s .args in
     double-arm (a .func3) (a .reg) (a .base) (a .imm) (s .fits .imm)
-    (one .if1 .left) (two .if2 .left) (c .before .before .code2 .given .1) (width .enum-told3 .given .1) (found .offset2 .ensures) (λ j. Word (c .compressed-double .ensures j)))
+    (one .if1 .left) (two .if2 .left) (arm .code2 .given .1) (width .enum-told3 .given .1) (found .offset2 .ensures) (λ j. Word (c .compressed-double .ensures j)))
     (λ c.
     let found = c .before .before in
     let width = found .before in

@@ -110,7 +110,8 @@ encode-load-spec =
     (λ c κs. search needs)
     (λ c. search needs)
     (λ c.
-    let found = c .before .before .before .before in
+    let arm = c .before .before in
+    let found = arm .before .before in
     let some = found .before in
     let funct = some .before in
     let long = funct .before in
@@ -118,7 +119,7 @@ encode-load-spec =
     let call = regs .before in
     let told = call .before in
     by-code (told .before .args .load) (long .if2 .left) (sym (call .are-valid .ensures) ∙ not-false _ (regs .if1 .left)) _ (funct .load-func3 .ensures) (some .if4 .left)
-    (record { sfits = told .struct-told .given .1 .1 .0 .1 }) (found .code-of .ensures) (c .before .before .code .given .1) (λ j. Word (c .load-word .ensures j)))
+    (record { sfits = told .struct-told .given .1 .1 .0 .1 }) (found .code-of .ensures) (arm .code .given .1) (λ j. Word (c .load-word .ensures j)))
     (λ c.
     let found = c .before .before in
     let some = found .before in

@@ -82,14 +82,15 @@ encode-store-spec =
     (λ c κs. search needs)
     (λ c. search needs)
     (λ c.
-    let found = c .before .before .before .before in
+    let arm = c .before .before in
+    let found = arm .before .before in
     let funct = found .before in
     let long = funct .before in
     let regs = long .before in
     let call = regs .before in
     let told = call .before in
     by-code (told .before .args .store) (long .if2 .left) (sym (call .are-valid .ensures) ∙ not-false _ (regs .if1 .left)) _ (funct .size-of .ensures)
-    (record { sfits = told .struct-told .given .1 .1 .0 .1 }) (found .code-of .ensures) (c .before .before .code .given .1) (λ j. Word (c .store-word .ensures j)))
+    (record { sfits = told .struct-told .given .1 .1 .0 .1 }) (found .code-of .ensures) (arm .code .given .1) (λ j. Word (c .store-word .ensures j)))
     (λ c.
     let found = c .before .before in
     let funct = found .before in

@@ -26,14 +26,19 @@ offset-spec =
     (λ c. search needs)
     (λ c. search needs)
     (λ c.
-    let o = c .before .before .before .before in
-    found _ _ (o .before .args .imm) (o .before .fits .imm) (o .code-of .ensures) (c .before .before .n .given .1) (simp (ne-eqb _ _ (c .if1 .taken))))
+    let arm = c .before .before in
+    let o = arm .before .before in
+    found _ _ (o .before .args .imm) (o .before .fits .imm) (o .code-of .ensures) (arm .n .given .1) (simp (ne-eqb _ _ (c .if1 .taken))))
     (λ c.
-    let o = c .before .before .before .before .before in
-    found _ _ (o .before .args .imm) (o .before .fits .imm) (o .code-of .ensures) (c .before .before .before .n .given .1) (simp (eq-eqb _ _ (c .before .if1 .left), lt-ltb _ _ (c .if2 .taken))))
+    let step = c .before in
+    let arm = step .before .before in
+    let o = arm .before .before in
+    found _ _ (o .before .args .imm) (o .before .fits .imm) (o .code-of .ensures) (arm .n .given .1) (simp (eq-eqb _ _ (step .if1 .left), lt-ltb _ _ (c .if2 .taken))))
     (λ c.
-    let o = c .before .before .before .before .before in
-    found _ _ (o .before .args .imm) (o .before .fits .imm) (o .code-of .ensures) (c .before .before .before .n .given .1) (simp (eq-eqb _ _ (c .before .if1 .left), le-ltb _ _ (c .if2 .left))))
+    let step = c .before in
+    let arm = step .before .before in
+    let o = arm .before .before in
+    found _ _ (o .before .args .imm) (o .before .fits .imm) (o .code-of .ensures) (arm .n .given .1) (simp (eq-eqb _ _ (step .if1 .left), le-ltb _ _ (c .if2 .left))))
     (λ c.
     let o = c .before .before in
     found _ _ (o .before .args .imm) (o .before .fits .imm) (o .code-of .ensures) (c .enum-told .given .1) refl))
