@@ -9,21 +9,21 @@ use borrow.Author.Tests.{eqb-true, leb-true}
 use lib.Dec.{eqb, leb, ltb}
 use lib.Pow.{pow-mono}
 use Rattle.forms.specs.Layout.{Layout, const, take, given, avoid, Operand, imm, rd, rs1, rs2, funct, csr, short, all, every, bits, width, size, matches, spares, read, readable}
-use Rattle.forms.specs.Table.{Kind, form, none, first, spread, ofWord, clash, sound}
-use Rattle.forms.specs.Speech.{Speech, Every, readAs, readOf}
+use Rattle.forms.specs.Table.{Answer, value, refusal, first, spread, ofWord, clash, sound}
+use Rattle.forms.specs.Meaning.{Meaning, Every, readAs, readOf}
 use Rattle.utils.proofs.Tests.{both, on}
 use Rattle.forms.proofs.Laws.{read-lt, every-at}
-use Rattle.forms.proofs.Table.{no-form, first-all, found-good, word-has, word-once}
+use Rattle.forms.proofs.Table.{no-value, first-all, found-good, word-has, word-once}
 use Rattle.forms.proofs.Facts.{Fact, Known, tells, tells-has, field-is, shuts, shut}
 
 -- what each line says of what it reads, holds of an instruction that is accepted
-pub by-lines : {I : Type 0} (S : Speech I) (w : ℕ) (P : I → Type 0) (T : List Layout) → Every (λ L. readable w L ≡ true → P (S .make (read L w))) T → (i : I) → readOf T S w ≡ form i → P i
-by-lines {I} S w P T h i = go T (S .why w) h
+pub by-lines : {I : Type 0} (S : Meaning I) (w : ℕ) (P : I → Type 0) (T : List Layout) → Every (λ L. readable w L ≡ true → P (S .make (read L w))) T → (i : I) → readOf T S w ≡ value i → P i
+by-lines {I} S w P T h i = go T (S .reading-refusal w) h
   where
-    go : (T : List Layout) (n : ℕ) → Every (λ L. readable w L ≡ true → P (S .make (read L w))) T → readAs S w (first (readable w) T n) ≡ form i → P i
-    go [] n h = λ q. no-form n i q
+    go : (T : List Layout) (n : ℕ) → Every (λ L. readable w L ≡ true → P (S .make (read L w))) T → readAs S w (first (readable w) T n) ≡ value i → P i
+    go [] n h = λ q. no-value n i q
     go (L ∷ T) n h =
-        on (λ (k : Kind Layout). readAs S w k ≡ form i → P i) (readable w L)
+        on (λ (k : Answer Layout). readAs S w k ≡ value i → P i) (readable w L)
         (λ e q. subst P ((let z : S .make (read L w) ≡ i = cc in z)) (h .0 e)) (λ _. go T n (h .1))
 
 -- a computed test of the lines
@@ -35,8 +35,8 @@ by-test f h (L ∷ T) e = let t = both (all f T) (f L) e in (h L (t .1), by-test
 abbrev pub crossed : List Layout → List Layout → Bool
 crossed T U = all (λ L. all (λ M. clash (ofWord M) (ofWord L)) U) T
 
-pub not-both : {I J : Type 0} (T U : List Layout) (R : Speech I) (S : Speech J) (w : ℕ) (i : I) (j : J) → crossed T U ≡ true
-    → readOf T R w ≡ form i → readOf U S w ≡ form j → ⊥
+pub not-both : {I J : Type 0} (T U : List Layout) (R : Meaning I) (S : Meaning J) (w : ℕ) (i : I) (j : J) → crossed T U ≡ true
+    → readOf T R w ≡ value i → readOf U S w ≡ value j → ⊥
 not-both T U R S w i j e p q =
     by-lines R w (λ _. ⊥) T (by-test _ (λ L f r. by-lines S w (λ _. ⊥) U (by-test _ (λ M c. word-once w L M r c) U f) j q) T e) i p
 
@@ -69,13 +69,13 @@ abbrev pub Words : List Layout → ℕ → Type 0
 Words [] w = ⊥
 Words (L ∷ T) w = (Fixed L w × (spares L (read L w) ≡ true)) ⊎ Words T w
 
-pub accepted : {I : Type 0} (T : List Layout) (S : Speech I) (w : ℕ) (i : I) → readOf T S w ≡ form i → Words T w
-accepted {I} T S w i = go T (S .why w)
+pub accepted : {I : Type 0} (T : List Layout) (S : Meaning I) (w : ℕ) (i : I) → readOf T S w ≡ value i → Words T w
+accepted {I} T S w i = go T (S .reading-refusal w)
   where
-    go : (T : List Layout) (n : ℕ) → readAs S w (first (readable w) T n) ≡ form i → Words T w
-    go [] n = λ q. no-form n i q
+    go : (T : List Layout) (n : ℕ) → readAs S w (first (readable w) T n) ≡ value i → Words T w
+    go [] n = λ q. no-value n i q
     go (L ∷ T) n =
-        on (λ (k : Kind Layout). readAs S w k ≡ form i → Words (L ∷ T) w) (readable w L)
+        on (λ (k : Answer Layout). readAs S w k ≡ value i → Words (L ∷ T) w) (readable w L)
         (λ e _. let t = both (matches L w) (spares L (read L w)) e in inl (fields-of L w (t .0), t .1)) (λ _ q. inr (go T n q))
 
 -- lines that do not read a word are passed over
@@ -84,20 +84,10 @@ Unread w T = Every (λ L. readable w L ≡ true → ⊥) T
 
 pub passed : (w : ℕ) (T U : List Layout) (n : ℕ) → Unread w T → first (readable w) (T ++ U) n ≡ first (readable w) U n
 passed w [] U n h = refl
-passed w (L ∷ T) U n h = on (λ (k : Kind Layout). k ≡ first (readable w) U n) (readable w L) (λ e. absurd (h .0 e)) (λ _. passed w T U n (h .1))
+passed w (L ∷ T) U n h = on (λ (k : Answer Layout). k ≡ first (readable w) U n) (readable w L) (λ e. absurd (h .0 e)) (λ _. passed w T U n (h .1))
 
 pub unread : (w : ℕ) (fs : List Fact) → Known w fs → (T : List Layout) → all (shuts fs) T ≡ true → Unread w T
 unread w fs h T e = by-test (shuts fs) (shut w fs h) T e
-
--- a word that is refused has the table's number
-pub number-is : {I : Type 0} (T : List Layout) (S : Speech I) (w n : ℕ) → readOf T S w ≡ none n → S .why w ≡ n
-number-is T S w n = go T
-  where
-    go : (U : List Layout) → readAs S w (first (readable w) U (S .why w)) ≡ none n → S .why w ≡ n
-    go [] = λ q. cc
-    go (L ∷ U) =
-        on (λ (k : Kind Layout). readAs S w k ≡ none n → S .why w ≡ n) (readable w L)
-        (λ _ q. no-form n (S .make (read L w)) (sym q)) (λ _ q. go U q)
 
 -- ---- the operands of an instruction that is read: each has no more bits than `room` says
 -- how many bits an operand has at most, in every table of the repository
@@ -113,20 +103,20 @@ room short = 1
 abbrev pub roomy : (Operand → ℕ) → Layout → Bool
 roomy room L = every (λ x. leb (size L x) (room x))
 
-pub record Made {I : Type 0} (S : Speech I) (room : Operand → ℕ) (i : I) : Type 0 where
+pub record Made {I : Type 0} (S : Meaning I) (room : Operand → ℕ) (i : I) : Type 0 where
   pub env : Operand → ℕ
   pub same : S .make env ≡ i
   pub low : (x : Operand) → env x < 2 ^ room x
 
-pub made-of : {I : Type 0} (T : List Layout) (S : Speech I) (room : Operand → ℕ) → sound T ≡ true → all (roomy room) T ≡ true → (w : ℕ) (i : I) → readOf T S w ≡ form i → Made S room i
-made-of {I} T S room ok r w i = go (first (readable w) T (S .why w)) refl
+pub made-of : {I : Type 0} (T : List Layout) (S : Meaning I) (room : Operand → ℕ) → sound T ≡ true → all (roomy room) T ≡ true → (w : ℕ) (i : I) → readOf T S w ≡ value i → Made S room i
+made-of {I} T S room ok r w i = go (first (readable w) T (S .reading-refusal w)) refl
   where
-    go : (k : Kind Layout) → first (readable w) T (S .why w) ≡ k → readAs S w k ≡ form i → Made S room i
-    go (form L) e q = record {
+    go : (k : Answer Layout) → first (readable w) T (S .reading-refusal w) ≡ k → readAs S w k ≡ value i → Made S room i
+    go (value L) e q = record {
       env = read L w;
       same = (cc);
       low = λ x.
-          lt-of-lt-of-le (read-lt L (found-good T ok (readable w) (S .why w) L e) w x)
-          (pow-mono (leb-true (size L x) (room x) (every-at (λ y. leb (size L y) (room y)) (first-all (roomy room) (readable w) T (S .why w) L r e) x)));
+          lt-of-lt-of-le (read-lt L (found-good T ok (readable w) (S .reading-refusal w) L e) w x)
+          (pow-mono (leb-true (size L x) (room x) (every-at (λ y. leb (size L y) (room y)) (first-all (roomy room) (readable w) T (S .reading-refusal w) L r e) x)));
     }
-    go (none n) e q = no-form n i q
+    go (refusal n) e q = no-value n i q

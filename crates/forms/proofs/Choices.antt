@@ -12,7 +12,7 @@ use Rattle.utils.proofs.Tests.{both, join, either}
 use Rattle.utils.proofs.Digits.{fld-past}
 use Rattle.forms.specs.Layout.{Layout, Operand, others, all, bits, spares, Piece, piece, from, lit, pieces, size, held, holds, chosen, chain, good}
 use Rattle.forms.specs.Table.{first, any, spread, ofPieces}
-use Rattle.forms.specs.Speech.{Speech, writeAs, writeOf}
+use Rattle.forms.specs.Meaning.{Meaning, writeAs, writeOf}
 use Rattle.forms.proofs.Tests.{all-by, not-any}
 use Rattle.forms.proofs.Laws.{linked, chained, holds-true}
 use Rattle.forms.proofs.Table.{bits-fld, Has, spread-has, pieces-have}
@@ -144,8 +144,8 @@ module _ (env : Operand → ℕ) (ks : Operand → Told) (h : (x : Operand) → 
         (λ q. not-any (hit ks) (spare env) (spare env) (offs L) s s (λ o p _ u. not-hit o p u) q)
 
 -- ---- the law: what is known of the operands gives the line, or none
-module _ {I : Type 0} (T : List Layout) (S : Speech I) (ok : all good T ≡ true) where
+module _ {I : Type 0} (T : List Layout) (S : Meaning I) (ok : all good T ≡ true) where
   pub by-operands : (i : I) (ks : Operand → Told) → ((x : Operand) → KnownAs (S .ops i x) (ks x)) → all (λ L. drops ks L || picks ks L) T ≡ true
-      → writeOf T S i ≡ writeAs S i (first (λ L. not (drops ks L)) T (S .why-not i))
+      → writeOf T S i ≡ writeAs S i (first (λ L. not (drops ks L)) T (S .writing-refusal i))
   by-operands i ks h e =
-      ap (writeAs S i) (settled (chosen (S .ops i)) (drops ks) (picks ks) (dropped (S .ops i) ks h) (picked (S .ops i) ks h) T (S .why-not i) ok e)
+      ap (writeAs S i) (settled (chosen (S .ops i)) (drops ks) (picks ks) (dropped (S .ops i) ks h) (picked (S .ops i) ks h) T (S .writing-refusal i) ok e)

@@ -1,4 +1,4 @@
--- What a code of an immediate tells, and operands of one bit: what a `Speaks` is made of. Assumes nothing.
+-- What a code of an immediate tells, and operands of one bit: what a `FaithfulBelow` is made of. Assumes nothing.
 use mathlib.Core.Path.{_≡_, refl, sym, subst}
 use mathlib.Core.Bool.{Bool, true, false}
 use Prim.Native.Nat.{ℕ, _<_}
@@ -13,7 +13,7 @@ use Rattle.utils.specs.declared.Code.{Code}
 use Rattle.utils.specs.declared.Code.the-variants.{Is, Out}
 use Rattle.forms.specs.declared.Wrote.the-variants.{Word}
 use Rattle.forms.specs.Layout.{Layout, imm, holds}
-use Rattle.forms.specs.Speech.{within, put, bitOf}
+use Rattle.forms.specs.Meaning.{within, put, bitOf}
 use Rattle.utils.proofs.Tests.{on}
 use Rattle.forms.proofs.AnyReader.{no-word}
 

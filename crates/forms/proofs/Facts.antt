@@ -11,8 +11,8 @@ use lib.Dec.{eqb, ltb}
 use lib.Pow.{mod-pow-add, shr-shr}
 use Rattle.utils.proofs.Tests.{both, join, either, on}
 use Rattle.forms.specs.Layout.{Layout, const, take, given, avoid, Operand, all, bits, width, matches, spares, Piece, piece, from, lit, pieces, gather, read, readable, constants, good}
-use Rattle.forms.specs.Table.{form, first, any, Bit, bit, spread, ofWord, clash}
-use Rattle.forms.specs.Speech.{Speech, readAs, readOf}
+use Rattle.forms.specs.Table.{value, first, any, Bit, bit, spread, ofWord, clash}
+use Rattle.forms.specs.Meaning.{Meaning, readAs, readOf}
 use Rattle.forms.proofs.Tests.{all-by, not-any}
 use Rattle.forms.proofs.Laws.{bits-lt, constant}
 use Rattle.forms.proofs.Shifts.{masked, masked-is}
@@ -246,7 +246,7 @@ module _ (p s o : Layout → Bool) (no : (L : Layout) → s L ≡ true → p L �
       go (s L) refl (p L) refl (b .1) (a .1) (settled T n (a .0) (b .0))
     where
       go : (x : Bool) → s L ≡ x → (y : Bool) → p L ≡ y → (x || o L) ≡ true → good L ≡ true → first p T n ≡ first (λ M. not (s M)) T n
-          → cond y (form L) (first p T n) ≡ cond (not x) (form L) (first (λ M. not (s M)) T n)
+          → cond y (value L) (first p T n) ≡ cond (not x) (value L) (first (λ M. not (s M)) T n)
       go true a true b e g rest = absurd (no L a b)
       go true a false b e g rest = rest
       go false a true b e g rest = refl
@@ -256,34 +256,34 @@ module _ (p s o : Layout → Bool) (no : (L : Layout) → s L ≡ true → p L �
 pub data Reason : Type 0 where
   reason : ℕ → ℕ → ℕ → ℕ → Reason  -- reason k n v m: m, where the n bits from bit k on are v
 
-abbrev pub whyBy : List Reason → ℕ → ℕ → ℕ
-whyBy [] last w = last
-whyBy (reason k n v m ∷ rs) last w = cond (eqb (bits w k n) v) m (whyBy rs last w)
+abbrev pub numberBy : List Reason → ℕ → ℕ → ℕ
+numberBy [] last w = last
+numberBy (reason k n v m ∷ rs) last w = cond (eqb (bits w k n) v) m (numberBy rs last w)
 
-abbrev pub whyOf : List Fact → List Reason → ℕ → ℕ
-whyOf fs [] last = last
-whyOf fs (reason k n v m ∷ rs) last = cond (denies fs (spread n k v [])) (whyOf fs rs last) m
+abbrev pub numberKnown : List Fact → List Reason → ℕ → ℕ
+numberKnown fs [] last = last
+numberKnown fs (reason k n v m ∷ rs) last = cond (denies fs (spread n k v [])) (numberKnown fs rs last) m
 
 -- the number is settled: a reason that is not denied is told, and no later one is asked
 abbrev pub clears : List Fact → List Reason → Bool
 clears fs [] = true
 clears fs (reason k n v m ∷ rs) = (denies fs (spread n k v []) && clears fs rs) || (ltb v (2 ^ n) && tells (ofFacts fs) (spread n k v []))
 
-why-is : (w : ℕ) (fs : List Fact) → Known w fs → (rs : List Reason) (last : ℕ) → clears fs rs ≡ true → whyBy rs last w ≡ whyOf fs rs last
-why-is w fs h [] last e = refl
-why-is w fs h (reason k n v m ∷ rs) last e =
+number-known : (w : ℕ) (fs : List Fact) → Known w fs → (rs : List Reason) (last : ℕ) → clears fs rs ≡ true → numberBy rs last w ≡ numberKnown fs rs last
+number-known w fs h [] last e = refl
+number-known w fs h (reason k n v m ∷ rs) last e =
     either (denies fs (spread n k v []) && clears fs rs) (ltb v (2 ^ n) && tells (ofFacts fs) (spread n k v [])) e
     (λ q.
     let t = both (denies fs (spread n k v [])) (clears fs rs) q in
-    (λ j. cond (ne-eqb (bits w k n) v (is-denied w fs h k n v (t .0)) j) m (why-is w fs h rs last (t .1) j)) ∙ ap (λ (b : Bool). cond b (whyOf fs rs last) m) (sym (t .0)))
+    (λ j. cond (ne-eqb (bits w k n) v (is-denied w fs h k n v (t .0)) j) m (number-known w fs h rs last (t .1) j)) ∙ ap (λ (b : Bool). cond b (numberKnown fs rs last) m) (sym (t .0)))
     (λ q.
     let yes : bits w k n ≡ v = is-told w fs h k n v q in
-    ap (λ (b : Bool). cond b m (whyBy rs last w)) (eq-eqb (bits w k n) v yes)
+    ap (λ (b : Bool). cond b m (numberBy rs last w)) (eq-eqb (bits w k n) v yes)
     ∙ on (λ (x : ℕ). m ≡ x) (denies fs (spread n k v [])) (λ d. absurd (is-denied w fs h k n v d yes)) (λ _. refl))
 
 -- ---- the law: what is known of a word gives its instruction, or its refusal
-module _ {I : Type 0} (T : List Layout) (S : Speech I) (ok : all good T ≡ true) (rs : List Reason) (last : ℕ) (why : (w : ℕ) → S .why w ≡ whyBy rs last w) where
-  pub by-facts : (w : ℕ) (fs : List Fact) → Known w fs → (settles fs T && clears fs rs) ≡ true → readOf T S w ≡ readAs S w (first (fits fs) T (whyOf fs rs last))
+module _ {I : Type 0} (T : List Layout) (S : Meaning I) (ok : all good T ≡ true) (rs : List Reason) (last : ℕ) (reading-refusal : (w : ℕ) → S .reading-refusal w ≡ numberBy rs last w) where
+  pub by-facts : (w : ℕ) (fs : List Fact) → Known w fs → (settles fs T && clears fs rs) ≡ true → readOf T S w ≡ readAs S w (first (fits fs) T (numberKnown fs rs last))
   by-facts w fs h e =
       let t = both (settles fs T) (clears fs rs) e in
-      ap (readAs S w) (ap (first (readable w) T) (why w ∙ why-is w fs h rs last (t .1)) ∙ settled (readable w) (shuts fs) (opens fs) (shut w fs h) (λ L g. opened w fs h L (constant L g)) T (whyOf fs rs last) ok (t .0))
+      ap (readAs S w) (ap (first (readable w) T) (reading-refusal w ∙ number-known w fs h rs last (t .1)) ∙ settled (readable w) (shuts fs) (opens fs) (shut w fs h) (λ L g. opened w fs h L (constant L g)) T (numberKnown fs rs last) ok (t .0))

@@ -1,4 +1,4 @@
--- Which numbers a table refuses with: a word with the one number that its `Speech` gives, an instruction with the one that its `Speech` gives or,
+-- Which numbers a table refuses with: a word with the one number that its `Meaning` gives, an instruction with the one that its `Meaning` gives or,
 -- where it has a line, with 10. Assumes nothing.
 use mathlib.Core.Path.{_≡_, refl, sym, _∙_, subst}
 use mathlib.Core.Bool.{Bool, true, false≢true}
@@ -12,40 +12,40 @@ use Rattle.utils.specs.declared.Code.the-variants.{Is, Out}
 use Rattle.utils.proofs.Tests.{both, either, on}
 use Rattle.forms.specs.declared.Wrote.the-variants.{Refused}
 use Rattle.forms.specs.Layout.{Layout, all, readable, chosen, build}
-use Rattle.forms.specs.Table.{Kind, form, none, first, any}
-use Rattle.forms.specs.Speech.{Speech, within, put, readAs, readOf, writeAs, writeOf}
+use Rattle.forms.specs.Table.{Answer, value, refusal, first, any}
+use Rattle.forms.specs.Meaning.{Meaning, within, put, readAs, readOf, writeAs, writeOf}
 use Rattle.forms.specs.Numbers.{OneOf}
-use Rattle.forms.proofs.Table.{no-form}
+use Rattle.forms.proofs.Table.{no-value}
 use Rattle.forms.proofs.AnyReader.{no-word}
 
-pub same-none : {F : Type 0} {m n : ℕ} → _≡_ {A = Kind F} (none m) (none n) → m ≡ n
-same-none e = cc
+pub same-refusal : {F : Type 0} {m n : ℕ} → _≡_ {A = Answer F} (refusal m) (refusal n) → m ≡ n
+same-refusal e = cc
 
 pub same-refused : {m n : ℕ} → Refused m ≡ Refused n → m ≡ n
 same-refused e = cc
 
-first-number : (p : Layout → Bool) (T : List Layout) (m n : ℕ) → first p T m ≡ none n → n ≡ m
-first-number p [] m n = λ e. sym (same-none e)
-first-number p (L ∷ T) m n = on (λ (k : Kind Layout). k ≡ none n → n ≡ m) (p L) (λ _ e. no-form n L (sym e)) (λ _. first-number p T m n)
+first-number : (p : Layout → Bool) (T : List Layout) (m n : ℕ) → first p T m ≡ refusal n → n ≡ m
+first-number p [] m n = λ e. sym (same-refusal e)
+first-number p (L ∷ T) m n = on (λ (k : Answer Layout). k ≡ refusal n → n ≡ m) (p L) (λ _ e. no-value n L (sym e)) (λ _. first-number p T m n)
 
-module _ {I : Type 0} (T : List Layout) (S : Speech I) where
-  pub reading-number : (w n : ℕ) → readOf T S w ≡ none n → n ≡ S .why w
-  reading-number w n = go (first (readable w) T (S .why w)) refl
+module _ {I : Type 0} (T : List Layout) (S : Meaning I) where
+  pub reading-number : (w n : ℕ) → readOf T S w ≡ refusal n → n ≡ S .reading-refusal w
+  reading-number w n = go (first (readable w) T (S .reading-refusal w)) refl
     where
-      go : (k : Kind Layout) → first (readable w) T (S .why w) ≡ k → readAs S w k ≡ none n → n ≡ S .why w
-      go (form L) e q = no-form n _ (sym q)
-      go (none m) e q = sym (same-none q) ∙ first-number (readable w) T (S .why w) m e
+      go : (k : Answer Layout) → first (readable w) T (S .reading-refusal w) ≡ k → readAs S w k ≡ refusal n → n ≡ S .reading-refusal w
+      go (value L) e q = no-value n _ (sym q)
+      go (refusal m) e q = sym (same-refusal q) ∙ first-number (readable w) T (S .reading-refusal w) m e
 
-  pub writing-number : (i : I) (n : ℕ) → writeOf T S i ≡ Refused n → (n ≡ S .why-not i) ⊎ (n ≡ 10)
-  writing-number i n = go (first (chosen (S .ops i)) T (S .why-not i)) refl
+  pub writing-number : (i : I) (n : ℕ) → writeOf T S i ≡ Refused n → (n ≡ S .writing-refusal i) ⊎ (n ≡ 10)
+  writing-number i n = go (first (chosen (S .ops i)) T (S .writing-refusal i)) refl
     where
       held : (k : Code) (w : ℕ) → put k w ≡ Refused n → n ≡ 10
       held (Is m) w q = no-word n (sym q)
       held Out w q = sym (same-refused q)
 
-      go : (k : Kind Layout) → first (chosen (S .ops i)) T (S .why-not i) ≡ k → writeAs S i k ≡ Refused n → (n ≡ S .why-not i) ⊎ (n ≡ 10)
-      go (form L) e q = inr (held (within L (S .code i)) (build L (S .ops i)) q)
-      go (none m) e q = inl (sym (same-refused q) ∙ first-number (chosen (S .ops i)) T (S .why-not i) m e)
+      go : (k : Answer Layout) → first (chosen (S .ops i)) T (S .writing-refusal i) ≡ k → writeAs S i k ≡ Refused n → (n ≡ S .writing-refusal i) ⊎ (n ≡ 10)
+      go (value L) e q = inr (held (within L (S .code i)) (build L (S .ops i)) q)
+      go (refusal m) e q = inl (sym (same-refused q) ∙ first-number (chosen (S .ops i)) T (S .writing-refusal i) m e)
 
 -- ---- sets of numbers: the test that one lies in another is computed
 one-of : (ns : List ℕ) (n : ℕ) → any (eqb n) ns ≡ true → OneOf ns n

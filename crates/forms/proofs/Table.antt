@@ -9,51 +9,51 @@ use borrow.Author.Tests.{eqb-true, eqb-false, not-true}
 use lib.Dec.{eqb}
 use lib.Pow.{field, shr-shr, mod-mod-pow}
 use Rattle.forms.specs.Layout.{Layout, const, take, given, avoid, Operand, imm, others, all, bits, width, matches, build, read, spares, Piece, piece, from, lit, pieces, holds, readable, chosen, good}
-use Rattle.forms.specs.Table.{Kind, form, none, numberIn, first, any, Bit, bit, spread, ofWord, ofPieces, differs, clash, apart, distinct, sound}
+use Rattle.forms.specs.Table.{Answer, value, refusal, numberIn, first, any, Bit, bit, spread, ofWord, ofPieces, differs, clash, apart, distinct, sound}
 use Rattle.utils.proofs.Tests.{both, either, on}
 use Rattle.forms.proofs.Tests.{not-any}
 use Rattle.forms.proofs.Laws.{Held, holds-true, read-build, read-holds, build-lt, readable-chosen, chosen-back, chosen-readable}
 
 -- ---- answers
 -- a number other than 0 is a refusal's
-pub refused-with : {F : Type 0} (k : Kind F) {n : ℕ} → n ≡ numberIn k → (n ≡ 0 → ⊥) → k ≡ none n
-refused-with (form x) e h = absurd (h e)
-refused-with (none m) e h = ap none (sym e)
+pub refused-with : {F : Type 0} (k : Answer F) {n : ℕ} → n ≡ numberIn k → (n ≡ 0 → ⊥) → k ≡ refusal n
+refused-with (value x) e h = absurd (h e)
+refused-with (refusal m) e h = ap refusal (sym e)
 
 -- ---- the first that passes
-pub no-form : {F X : Type 0} (n : ℕ) (f : F) → none n ≡ form f → X
-no-form n f q = let z : _≡_ {A = ℕ} 0 1 = cc in absurd (omega arith)
+pub no-value : {F X : Type 0} (n : ℕ) (f : F) → refusal n ≡ value f → X
+no-value n f q = let z : _≡_ {A = ℕ} 0 1 = cc in absurd (omega arith)
 
-pub same-form : (L M : Layout) → form L ≡ form M → L ≡ M
-same-form L M e = cc
+pub same-value : (L M : Layout) → value L ≡ value M → L ≡ M
+same-value L M e = cc
 
-pub first-true : (p : Layout → Bool) (T : List Layout) (n : ℕ) (L : Layout) → first p T n ≡ form L → p L ≡ true
-first-true p [] n L = λ q. no-form n L q
+pub first-true : (p : Layout → Bool) (T : List Layout) (n : ℕ) (L : Layout) → first p T n ≡ value L → p L ≡ true
+first-true p [] n L = λ q. no-value n L q
 first-true p (M ∷ T) n L =
-    on (λ (k : Kind Layout). k ≡ form L → p L ≡ true) (p M) (λ e q. subst (λ (N : Layout). p N ≡ true) (same-form M L q) e) (λ _ q. first-true p T n L q)
+    on (λ (k : Answer Layout). k ≡ value L → p L ≡ true) (p M) (λ e q. subst (λ (N : Layout). p N ≡ true) (same-value M L q) e) (λ _ q. first-true p T n L q)
 
-pub first-all : (f p : Layout → Bool) (T : List Layout) (n : ℕ) (L : Layout) → all f T ≡ true → first p T n ≡ form L → f L ≡ true
-first-all f p [] n L e = λ q. no-form n L q
+pub first-all : (f p : Layout → Bool) (T : List Layout) (n : ℕ) (L : Layout) → all f T ≡ true → first p T n ≡ value L → f L ≡ true
+first-all f p [] n L e = λ q. no-value n L q
 first-all f p (M ∷ T) n L e =
     let t = both (all f T) (f M) e in
-    on (λ (k : Kind Layout). k ≡ form L → f L ≡ true) (p M) (λ _ q. subst (λ (N : Layout). f N ≡ true) (same-form M L q) (t .1)) (λ _ q. first-all f p T n L (t .0) q)
+    on (λ (k : Answer Layout). k ≡ value L → f L ≡ true) (p M) (λ _ q. subst (λ (N : Layout). f N ≡ true) (same-value M L q) (t .1)) (λ _ q. first-all f p T n L (t .0) q)
 
 -- what one test finds another finds, where it excludes all else
 first-too : (p q : Layout → Bool) (T : List Layout) (n m : ℕ) (L : Layout) → ((M : Layout) → apart M L ≡ true → q M ≡ true → ⊥) → distinct T ≡ true
-    → first p T n ≡ form L → q L ≡ true → first q T m ≡ form L
-first-too p q [] n m L ex e = λ f. no-form n L f
+    → first p T n ≡ value L → q L ≡ true → first q T m ≡ value L
+first-too p q [] n m L ex e = λ f. no-value n L f
 first-too p q (M ∷ T) n m L ex e =
     let t = both (all (apart M) T) (distinct T) e in
-    on (λ (k : Kind Layout). k ≡ form L → q L ≡ true → first q (M ∷ T) m ≡ form L) (p M)
-    (λ _ f h. subst (λ (N : Layout). first q (N ∷ T) m ≡ form L) (sym (same-form M L f)) (ap (λ (b : Bool). cond b (form L) (first q T m)) h))
-    (λ _ f h. on (λ (k : Kind Layout). k ≡ form L) (q M) (λ g. absurd (ex M (first-all (apart M) p T n L (t .0) f) g)) (λ _. first-too p q T n m L ex (t .1) f h))
+    on (λ (k : Answer Layout). k ≡ value L → q L ≡ true → first q (M ∷ T) m ≡ value L) (p M)
+    (λ _ f h. subst (λ (N : Layout). first q (N ∷ T) m ≡ value L) (sym (same-value M L f)) (ap (λ (b : Bool). cond b (value L) (first q T m)) h))
+    (λ _ f h. on (λ (k : Answer Layout). k ≡ value L) (q M) (λ g. absurd (ex M (first-all (apart M) p T n L (t .0) f) g)) (λ _. first-too p q T n m L ex (t .1) f h))
 
 -- none passes
-pub first-none : (p : Layout → Bool) (T : List Layout) (n : ℕ) → any p T ≡ false → first p T n ≡ none n
+pub first-none : (p : Layout → Bool) (T : List Layout) (n : ℕ) → any p T ≡ false → first p T n ≡ refusal n
 first-none p [] n = λ e. refl
 first-none p (L ∷ T) n = go (p L) (first-none p T n)
   where
-    go : (b : Bool) → (any p T ≡ false → first p T n ≡ none n) → (b || any p T) ≡ false → cond b (form L) (first p T n) ≡ none n
+    go : (b : Bool) → (any p T ≡ false → first p T n ≡ refusal n) → (b || any p T) ≡ false → cond b (value L) (first p T n) ≡ refusal n
     go true f e = absurd (false≢true (sym e))
     go false f e = f e
 
@@ -136,12 +136,12 @@ module _ (T : List Layout) (ok : sound T ≡ true) where
   sound-parts : (all good T ≡ true) × (distinct T ≡ true)
   sound-parts = both (all good T) (distinct T) ok
 
-  pub found-good : (p : Layout → Bool) (n : ℕ) (L : Layout) → first p T n ≡ form L → good L ≡ true
+  pub found-good : (p : Layout → Bool) (n : ℕ) (L : Layout) → first p T n ≡ value L → good L ≡ true
   found-good p n L e = first-all good p T n L (sound-parts .0) e
 
   -- a word's layout is its operands' layout, and they are written as the word
-  pub read-back : (w n m : ℕ) (L : Layout) → first (readable w) T n ≡ form L → w < 2 ^ width L
-      → (first (chosen (read L w)) T m ≡ form L) × ((holds L imm (read L w imm) ≡ true) × (build L (read L w) ≡ w))
+  pub read-back : (w n m : ℕ) (L : Layout) → first (readable w) T n ≡ value L → w < 2 ^ width L
+      → (first (chosen (read L w)) T m ≡ value L) × ((holds L imm (read L w imm) ≡ true) × (build L (read L w) ≡ w))
   read-back w n m L e h =
       let g = found-good (readable w) n L e in
       let r = first-true (readable w) T n L e in
@@ -151,8 +151,8 @@ module _ (T : List Layout) (ok : sound T ≡ true) where
       )
 
   -- operands' layout is that of the word in which they are written, and they are read of it
-  pub write-back : (env : Operand → ℕ) (n m : ℕ) (L : Layout) → first (chosen env) T n ≡ form L → holds L imm (env imm) ≡ true
-      → (first (readable (build L env)) T m ≡ form L) × ((read L (build L env) ≡ env) × (build L env < 2 ^ width L))
+  pub write-back : (env : Operand → ℕ) (n m : ℕ) (L : Layout) → first (chosen env) T n ≡ value L → holds L imm (env imm) ≡ true
+      → (first (readable (build L env)) T m ≡ value L) × ((read L (build L env) ≡ env) × (build L env < 2 ^ width L))
   write-back env n m L e i =
       let g = found-good (chosen env) n L e in
       let v = first-true (chosen env) T n L e in
@@ -162,5 +162,5 @@ module _ (T : List Layout) (ok : sound T ≡ true) where
       )
 
   -- a line that reads a word reads every word of the line
-  pub same-line : (w v n m : ℕ) (L : Layout) → first (readable w) T n ≡ form L → readable v L ≡ true → first (readable v) T m ≡ form L
+  pub same-line : (w v n m : ℕ) (L : Layout) → first (readable w) T n ≡ value L → readable v L ≡ true → first (readable v) T m ≡ value L
   same-line w v n m L e r = first-too (readable w) (readable v) T n m L (λ M a q. readable-once v L M r a q) (sound-parts .1) e r

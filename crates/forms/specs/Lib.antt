@@ -1,6 +1,6 @@
 pub mod Layout
 pub mod Segments
 pub mod Table
-pub mod Speech
+pub mod Meaning
 pub mod Demand3
 pub mod Numbers

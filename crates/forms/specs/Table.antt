@@ -6,20 +6,20 @@ use mathlib.Core.List.{List, [], _∷_}
 use lib.Dec.{eqb}
 use Rattle.forms.specs.Layout.{Layout, const, take, given, avoid, others, all, bits, width, good, Piece, piece, from, lit, pieces}
 
--- a form, or a refusal's number
-pub data Kind (F : Type 0) : Type 0 where
-  form : F → Kind F
-  none : ℕ → Kind F
+-- a value, or the number of a refusal
+pub data Answer (F : Type 0) : Type 0 where
+  value : F → Answer F
+  refusal : ℕ → Answer F
 
 -- the refusal's number, 0 where there is none
-abbrev pub numberIn : {F : Type 0} → Kind F → ℕ
-numberIn (form x) = 0
-numberIn (none n) = n
+abbrev pub numberIn : {F : Type 0} → Answer F → ℕ
+numberIn (value x) = 0
+numberIn (refusal n) = n
 
 -- the first that passes, or n
-abbrev pub first : (Layout → Bool) → List Layout → ℕ → Kind Layout
-first p [] n = none n
-first p (L ∷ T) n = cond (p L) (form L) (first p T n)
+abbrev pub first : (Layout → Bool) → List Layout → ℕ → Answer Layout
+first p [] n = refusal n
+first p (L ∷ T) n = cond (p L) (value L) (first p T n)
 
 abbrev pub any : {A : Type 0} → (A → Bool) → List A → Bool
 any p [] = false

@@ -6,7 +6,7 @@ use native.Mathlib.Omega.{arith}
 use lib.Dec.{ltb}
 use lib.ListN.{length, getD}
 use Rattle.profiles.specs.declared.Profile.{Profile}
-use Rattle.forms.specs.Table.{form}
+use Rattle.forms.specs.Table.{value}
 use Rattle.utils.proofs.Tests.{on}
 use Rattle.octets.specs.declared.Emitted.{Emitted}
 use Rattle.octets.specs.Bytes.{emitted, emittedOut}
@@ -28,7 +28,7 @@ use Rattle.matnosoru.specs.Abi.{Short, lineAnswer, lineDef, lineOut}
 pub record Accepted (p : Profile) (r : Record) (n : ℕ) : Type 0 where
   pub small : n ≤ 11
   pub answer : List ℕ
-  pub is : answerOf p r ≡ form answer
+  pub is : answerOf p r ≡ value answer
 
 can-be-written : (p : Profile) (r : Record) (n : ℕ) (s : List ℕ) → parse p s ≡ Got r n → Accepted p r n
 can-be-written p r n s e =

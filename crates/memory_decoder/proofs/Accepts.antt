@@ -3,8 +3,8 @@ use mathlib.Core.Path.{_≡_, refl, ap}
 use Prim.Native.Nat.{ℕ}
 use native.Mathlib.Omega.{arith}
 use Rattle.profiles.specs.declared.Profile.{Profile}
-use Rattle.forms.specs.Table.{Kind, form, none}
-use Rattle.forms.specs.Speech.{readOf}
+use Rattle.forms.specs.Table.{Answer, value, refusal}
+use Rattle.forms.specs.Meaning.{readOf}
 use Rattle.forms.proofs.Accepts.{Words, accepted, not-both}
 use Rattle.memory_decoder.specs.Forms.{loads, stores}
 use Rattle.memory_decoder.specs.Load as Load
@@ -17,38 +17,38 @@ use Rattle.memory_decoder.specs.declared.StoreInstr.{StoreInstr}
 use Rattle.memory_decoder.specs.declared.StoreRead.the-variants.{Store as AStore}
 
 -- ---- an answer that is an instruction, and what it was read of
-pub load-form : (p : Profile) (w : ℕ) (i : LoadInstr) → loadDef p w ≡ ALoad i → readOf loads Load.speech w ≡ form i
+pub load-form : (p : Profile) (w : ℕ) (i : LoadInstr) → loadDef p w ≡ ALoad i → readOf loads Load.meaning w ≡ value i
 unfolding loadDef
-load-form p w i = go (readOf loads Load.speech w)
+load-form p w i = go (readOf loads Load.meaning w)
   where
-    go : (k : Kind LoadInstr) → Load.answered k ≡ ALoad i → k ≡ form i
-    go (form x) q = cc
-    go (none n) q = let z : _≡_ {A = ℕ} 0 1 = cc in absurd (omega arith)
+    go : (k : Answer LoadInstr) → Load.answered k ≡ ALoad i → k ≡ value i
+    go (value x) q = cc
+    go (refusal n) q = let z : _≡_ {A = ℕ} 0 1 = cc in absurd (omega arith)
 
-pub form-load : (p : Profile) (w : ℕ) (i : LoadInstr) → readOf loads Load.speech w ≡ form i → loadDef p w ≡ ALoad i
+pub form-load : (p : Profile) (w : ℕ) (i : LoadInstr) → readOf loads Load.meaning w ≡ value i → loadDef p w ≡ ALoad i
 unfolding loadDef
 form-load p w i e = ap Load.answered e
 
-pub store-form : (p : Profile) (w : ℕ) (i : StoreInstr) → storeDef p w ≡ AStore i → readOf stores Store.speech w ≡ form i
+pub store-form : (p : Profile) (w : ℕ) (i : StoreInstr) → storeDef p w ≡ AStore i → readOf stores Store.meaning w ≡ value i
 unfolding storeDef
-store-form p w i = go (readOf stores Store.speech w)
+store-form p w i = go (readOf stores Store.meaning w)
   where
-    go : (k : Kind StoreInstr) → Store.answered k ≡ AStore i → k ≡ form i
-    go (form x) q = cc
-    go (none n) q = let z : _≡_ {A = ℕ} 0 1 = cc in absurd (omega arith)
+    go : (k : Answer StoreInstr) → Store.answered k ≡ AStore i → k ≡ value i
+    go (value x) q = cc
+    go (refusal n) q = let z : _≡_ {A = ℕ} 0 1 = cc in absurd (omega arith)
 
-pub form-store : (p : Profile) (w : ℕ) (i : StoreInstr) → readOf stores Store.speech w ≡ form i → storeDef p w ≡ AStore i
+pub form-store : (p : Profile) (w : ℕ) (i : StoreInstr) → readOf stores Store.meaning w ≡ value i → storeDef p w ≡ AStore i
 unfolding storeDef
 form-store p w i e = ap Store.answered e
 
 -- ---- the theorems
 -- a word that is accepted has, of some line of the table, every constant, and no operand that the line excludes
 pub loads-accept : (p : Profile) (w : ℕ) (i : LoadInstr) → loadDef p w ≡ ALoad i → Words loads w
-loads-accept p w i e = accepted loads Load.speech w i (load-form p w i e)
+loads-accept p w i e = accepted loads Load.meaning w i (load-form p w i e)
 
 pub stores-accept : (p : Profile) (w : ℕ) (i : StoreInstr) → storeDef p w ≡ AStore i → Words stores w
-stores-accept p w i e = accepted stores Store.speech w i (store-form p w i e)
+stores-accept p w i e = accepted stores Store.meaning w i (store-form p w i e)
 
 -- no word is accepted in two readings, whatever the two profiles are
 pub not-load-and-store : (p q : Profile) (w : ℕ) (i : LoadInstr) (j : StoreInstr) → loadDef p w ≡ ALoad i → storeDef q w ≡ AStore j → ⊥
-not-load-and-store p q w i j e f = not-both loads stores Load.speech Store.speech w i j refl (load-form p w i e) (store-form q w j f)
+not-load-and-store p q w i j e f = not-both loads stores Load.meaning Store.meaning w i j refl (load-form p w i e) (store-form q w j f)

@@ -21,11 +21,11 @@ use Rattle.utils.proofs.Signed.{signed-low}
 use Rattle.utils.specs.declared.Width.{Width}
 use Rattle.registers.specs.declared.Register.{Register}
 use Rattle.forms.specs.Layout.{Layout, imm, all, pieces, size, read, good}
-use Rattle.forms.specs.Table.{Kind, form, none, first}
-use Rattle.forms.specs.Speech.{Speech, readAs, readOf}
+use Rattle.forms.specs.Table.{Answer, value, refusal, first}
+use Rattle.forms.specs.Meaning.{Meaning, readAs, readOf}
 use Rattle.forms.proofs.Laws.{read-lt}
 use Rattle.forms.proofs.Shifts.{orRead, gathered}
-use Rattle.forms.proofs.Facts.{Fact, Known, settles, fits, Reason, reason, whyOf, clears, by-facts}
+use Rattle.forms.proofs.Facts.{Fact, Known, settles, fits, Reason, reason, numberKnown, clears, by-facts}
 use Rattle.memory_decoder.specs.Access.{isLong, unread}
 use Rattle.memory_decoder.specs.Forms.{loads, stores}
 use Rattle.memory_decoder.specs.Load as Load
@@ -70,25 +70,25 @@ module _ (L : Layout) (ok : good L ≡ true) (small : leb (size L imm) 11 ≡ tr
 
 -- ---- a table of loads or stores and its answers
 pub record Reading (I R : Type 0) : Type 1 where
-  pub answer : Kind I → R
+  pub answer : Answer I → R
   pub number : R → ℕ
   pub table : List Layout
-  pub speech : Speech I
+  pub meaning : Meaning I
   pub opcode : ℕ  -- of the 32-bit form
   pub fine : all good table ≡ true
-  pub why : (w : ℕ) → speech .why w ≡ unread opcode w
-  pub number-form : (i : I) → number (answer (form i)) ≡ 0
-  pub number-none : (n : ℕ) → number (answer (none n)) ≡ n
+  pub reading-refusal : (w : ℕ) → meaning .reading-refusal w ≡ unread opcode w
+  pub number-form : (i : I) → number (answer (value i)) ≡ 0
+  pub number-none : (n : ℕ) → number (answer (refusal n)) ≡ n
 
 abbrev pub loading : Reading LoadInstr LoadRead
 loading = record {
   answer = Load.answered;
   number = Load.numberOf;
   table = loads;
-  speech = Load.speech;
+  meaning = Load.meaning;
   opcode = 0x03;
   fine = refl;
-  why = λ w. refl;
+  reading-refusal = λ w. refl;
   number-form = λ i. refl;
   number-none = λ n. refl;
 }
@@ -98,17 +98,17 @@ storing = record {
   answer = Store.answered;
   number = Store.numberOf;
   table = stores;
-  speech = Store.speech;
+  meaning = Store.meaning;
   opcode = 0x23;
   fine = refl;
-  why = λ w. refl;
+  reading-refusal = λ w. refl;
   number-form = λ i. refl;
   number-none = λ n. refl;
 }
 
 -- its answer to a word
 abbrev pub answerTo : {I R : Type 0} → Reading I R → ℕ → R
-answerTo F w = F .answer (readOf (F .table) (F .speech) w)
+answerTo F w = F .answer (readOf (F .table) (F .meaning) w)
 
 -- `unread` as tests of fields
 abbrev reasons : ℕ → List Reason
@@ -117,16 +117,16 @@ reasons opcode = reason 0 2 0b10 5 ∷ reason 0 7 opcode 4 ∷ []
 -- what the code knows of the word settles its answer
 module _ {I R : Type 0} (F : Reading I R) (w : ℕ) where
   pub reads : (fs : List Fact) → Known w fs → (settles fs (F .table) && clears fs (reasons (F .opcode))) ≡ true
-      → F .answer (readAs (F .speech) w (first (fits fs) (F .table) (whyOf fs (reasons (F .opcode)) 3))) ≡ answerTo F w
-  reads fs h e = ap (F .answer) (sym (by-facts (F .table) (F .speech) (F .fine) (reasons (F .opcode)) 3 (F .why) w fs h e))
+      → F .answer (readAs (F .meaning) w (first (fits fs) (F .table) (numberKnown fs (reasons (F .opcode)) 3))) ≡ answerTo F w
+  reads fs h e = ap (F .answer) (sym (by-facts (F .table) (F .meaning) (F .fine) (reasons (F .opcode)) 3 (F .reading-refusal) w fs h e))
 
   -- the same of a reader of one length of words, which answers 3 to the other
   module _ {r : R} where
-    pub long-reads : w % 2 ^ 2 ≡ 0b11 → r ≡ answerTo F w → r ≡ cond (isLong w) (answerTo F w) (F .answer (none 3))
-    long-reads e q = q ∙ sym (if-long w (answerTo F w) (F .answer (none 3)) e)
+    pub long-reads : w % 2 ^ 2 ≡ 0b11 → r ≡ answerTo F w → r ≡ cond (isLong w) (answerTo F w) (F .answer (refusal 3))
+    long-reads e q = q ∙ sym (if-long w (answerTo F w) (F .answer (refusal 3)) e)
 
-    pub short-reads : (w % 2 ^ 2 ≡ 0b11 → ⊥) → r ≡ answerTo F w → r ≡ cond (isLong w) (F .answer (none 3)) (answerTo F w)
-    short-reads e q = q ∙ sym (if-short w (F .answer (none 3)) (answerTo F w) e)
+    pub short-reads : (w % 2 ^ 2 ≡ 0b11 → ⊥) → r ≡ answerTo F w → r ≡ cond (isLong w) (F .answer (refusal 3)) (answerTo F w)
+    short-reads e q = q ∙ sym (if-short w (F .answer (refusal 3)) (answerTo F w) e)
 
 -- ---- the answers, part by part
 pub same-load : {d e a b : Register} {m n : ℤ} {k l : Width} {u v : Bool} (c : Bool) → d ≡ e → a ≡ b → m ≡ n → k ≡ l → u ≡ v

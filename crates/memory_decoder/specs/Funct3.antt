@@ -5,7 +5,7 @@ use mathlib.Core.List.{[], _∷_}
 use lib.ListN.{getD}
 use Rattle.utils.specs.declared.Width.{Width}
 use Rattle.utils.specs.declared.Width.the-variants.{Byte, Byte2, Byte4, Byte8}
-use Rattle.forms.specs.Speech.{bitOf}
+use Rattle.forms.specs.Meaning.{bitOf}
 
 abbrev pub widthOf : ℕ → Width
 widthOf f = getD (Byte ∷ Byte2 ∷ Byte4 ∷ Byte8 ∷ []) (f % 2 ^ 2) Byte

@@ -7,8 +7,8 @@ use Rattle.utils.specs.Signed.{signed, twos, codeDef}
 use Rattle.utils.specs.declared.Width.{Width}
 use Rattle.profiles.specs.declared.Profile.{Profile}
 use Rattle.forms.specs.Layout.{Operand, imm, rd, rs1, rs2, funct, csr, short}
-use Rattle.forms.specs.Table.{Kind, form, none}
-use Rattle.forms.specs.Speech.{Speech, readOf, bitOf}
+use Rattle.forms.specs.Table.{Answer, value, refusal}
+use Rattle.forms.specs.Meaning.{Meaning, readOf, bitOf}
 use Rattle.memory_decoder.specs.Access.{isLong, unread, unwritten}
 use Rattle.memory_decoder.specs.Forms.{stores}
 use Rattle.memory_decoder.specs.Funct3.{widthOf, sizeOf}
@@ -38,19 +38,19 @@ operandsOf i funct = sizeOf (i .len)
 operandsOf i csr = 0
 operandsOf i short = bitOf (i .«is_compressed»)
 
-abbrev pub whyNot : StoreInstr → ℕ
-whyNot i = unwritten (i .rs2 .0) (i .rs1 .0)
+abbrev pub writing-refusal : StoreInstr → ℕ
+writing-refusal i = unwritten (i .rs2 .0) (i .rs1 .0)
 
-abbrev pub speech : Speech StoreInstr
-speech = record { make = made; ops = operandsOf; code = λ i. codeDef 2048 (i .imm); is-short = λ i. i .«is_compressed»; why = unread 0x23; why-not = whyNot }
+abbrev pub meaning : Meaning StoreInstr
+meaning = record { make = made; ops = operandsOf; code = λ i. codeDef 2048 (i .imm); is-short = λ i. i .«is_compressed»; reading-refusal = unread 0x23; writing-refusal = writing-refusal }
 
 -- ---- the reading; it asks nothing of the profile
-abbrev pub answered : Kind StoreInstr → StoreRead
-answered (form i) = Store i
-answered (none n) = Refused n
+abbrev pub answered : Answer StoreInstr → StoreRead
+answered (value i) = Store i
+answered (refusal n) = Refused n
 
 unfoldable pub storeDef : Profile → ℕ → StoreRead
-storeDef p w = answered (readOf stores speech w)
+storeDef p w = answered (readOf stores meaning w)
 
 -- a reading of words of one length: a word of the other length is not of the form
 abbrev pub uncompressedStoreDef : Profile → ℕ → StoreRead

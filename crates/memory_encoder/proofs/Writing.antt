@@ -25,7 +25,7 @@ use Rattle.registers.proofs.Numbers.{valid}
 use Rattle.forms.specs.declared.Wrote.{Wrote}
 use Rattle.forms.specs.declared.Wrote.the-variants.{Word, Refused}
 use Rattle.forms.specs.Layout.{Layout, Operand, imm, rd, rs1, rs2, funct, csr, short, all, holds, build}
-use Rattle.forms.specs.Speech.{Speech, bitOf, within, put, writeOf, writeAs}
+use Rattle.forms.specs.Meaning.{Meaning, bitOf, within, put, writeOf, writeAs}
 use Rattle.forms.specs.Table.{first}
 use Rattle.forms.proofs.Codes.{within-is, code-twos}
 use Rattle.forms.proofs.Facts.{is, isnt, under, over}
@@ -63,14 +63,14 @@ Settles ks T = all (λ L. drops ks L || picks ks L) T ≡ true
 
 module _ (r b f s : Told) where
   pub load-line : (i : LoadInstr) → KnownAs (i .rd .0) r → KnownAs (i .rs1 .0) b → KnownAs (funct3Of (i .len) (i .«is_unsigned»)) f → KnownAs (bitOf (i .«is_compressed»)) s
-      → Settles (loadTold r b f s) loads → writeOf loads Load.speech i ≡ writeAs Load.speech i (first (λ L. not (drops (loadTold r b f s) L)) loads (Load.whyNot i))
+      → Settles (loadTold r b f s) loads → writeOf loads Load.meaning i ≡ writeAs Load.meaning i (first (λ L. not (drops (loadTold r b f s) L)) loads (Load.writing-refusal i))
   load-line i hr hb hf hs e =
-      by-operands loads Load.speech refl i (loadTold r b f s) (elim [ imm ↦ tt | rd ↦ hr | rs1 ↦ hb | rs2 ↦ refl | funct ↦ hf | csr ↦ refl | short ↦ hs ]) e
+      by-operands loads Load.meaning refl i (loadTold r b f s) (elim [ imm ↦ tt | rd ↦ hr | rs1 ↦ hb | rs2 ↦ refl | funct ↦ hf | csr ↦ refl | short ↦ hs ]) e
 
   pub store-line : (i : StoreInstr) → KnownAs (i .rs2 .0) r → KnownAs (i .rs1 .0) b → KnownAs (sizeOf (i .len)) f → KnownAs (bitOf (i .«is_compressed»)) s
-      → Settles (storeTold r b f s) stores → writeOf stores Store.speech i ≡ writeAs Store.speech i (first (λ L. not (drops (storeTold r b f s) L)) stores (Store.whyNot i))
+      → Settles (storeTold r b f s) stores → writeOf stores Store.meaning i ≡ writeAs Store.meaning i (first (λ L. not (drops (storeTold r b f s) L)) stores (Store.writing-refusal i))
   store-line i hr hb hf hs e =
-      by-operands stores Store.speech refl i (storeTold r b f s) (elim [ imm ↦ tt | rd ↦ refl | rs1 ↦ hb | rs2 ↦ hr | funct ↦ hf | csr ↦ refl | short ↦ hs ]) e
+      by-operands stores Store.meaning refl i (storeTold r b f s) (elim [ imm ↦ tt | rd ↦ refl | rs1 ↦ hb | rs2 ↦ hr | funct ↦ hf | csr ↦ refl | short ↦ hs ]) e
 
 -- nothing; a register; one above 31; one of the eight of three bits; none of them
 abbrev pub anything : Told
@@ -146,7 +146,7 @@ module _ (L : Layout) (word : ℕ → ℕ) (z : ℤ) (fits : SFits w64 z) {c k :
   put-step s l h e = put-row L word z q p (e ∙ ap (λ (y : ℤ). stepped s l (codeDef 2048 y)) (toZ-ofZ w64 z fits) ∙ within-step L s l h (codeDef 2048 z))
 
 -- the line of the width w writes: len is the width, c what `offset` found, k the arm and r the arm's answer
-module _ {I : Type 0} (T : List Layout) (S : Speech I) (i : Width → I) (z : ℤ) (fits : SFits w64 z) {c k : Code} {r : Wrote} {len : Width} (q : c ≡ k) where
+module _ {I : Type 0} (T : List Layout) (S : Meaning I) (i : Width → I) (z : ℤ) (fits : SFits w64 z) {c k : Code} {r : Wrote} {len : Width} (q : c ≡ k) where
   pub by-step : (w : Width) (L : Layout) (word : ℕ → ℕ) (s l : ℕ) → ((n : ℕ) → holds L imm n ≡ (eqb (n % s) 0 && ltb n l))
       → writeOf T S (i w) ≡ put (within L (codeDef 2048 z)) (word (twos 2048 z)) → len ≡ w → c ≡ stepped s l (codeDef 2048 (toZ w64 (ofZ w64 z))) → r ≡ putCode word k → r ≡ writeOf T S (i len)
   by-step w L word s l h line t o p = put-step L word z fits q p s l h o ∙ sym line ∙ ap (λ (v : Width). writeOf T S (i v)) (sym t)
@@ -156,15 +156,15 @@ module _ (f x b : ℕ) (z : ℤ) where
   -- what `offset` found is c, and k the arm; r is the arm's answer
   module _ (fits : SFits w64 z) (d : x / 8 ≡ 1) (e : b / 8 ≡ 1) {c k : Code} {r : Wrote} {len : Width} (q : c ≡ k) where
     by-arm : (w : Width) (word : ℕ → ℕ → ℕ) (L M : Layout) (s l : ℕ) → ((n : ℕ) → holds L imm n ≡ (eqb (n % s) 0 && ltb n l)) → ((n : ℕ) → holds M imm n ≡ (eqb (n % s) 0 && ltb n l))
-        → writeOf loads Load.speech (Load.mk x b z w true false) ≡ put (within L (codeDef 2048 z)) (word 0b010 (twos 2048 z))
-        → writeOf stores Store.speech (Store.mk x b z w true) ≡ put (within M (codeDef 2048 z)) (word 0b110 (twos 2048 z))
+        → writeOf loads Load.meaning (Load.mk x b z w true false) ≡ put (within L (codeDef 2048 z)) (word 0b010 (twos 2048 z))
+        → writeOf stores Store.meaning (Store.mk x b z w true) ≡ put (within M (codeDef 2048 z)) (word 0b110 (twos 2048 z))
         → len ≡ w → c ≡ stepped s l (codeDef 2048 (toZ w64 (ofZ w64 z))) → r ≡ putCode (word f) k → Compressed f x b z len r
     by-arm w word L M s l h g load store t o p = record {
       as-load = λ u.
-          by-step loads Load.speech (λ v. Load.mk x b z v true false) z fits q w L (word f) s l h
+          by-step loads Load.meaning (λ v. Load.mk x b z v true false) z fits q w L (word f) s l h
           (load ∙ ap (λ (v : ℕ). put (within L (codeDef 2048 z)) (word v (twos 2048 z))) (sym u)) t o p;
       as-store = λ u.
-          by-step stores Store.speech (λ v. Store.mk x b z v true) z fits q w M (word f) s l g
+          by-step stores Store.meaning (λ v. Store.mk x b z v true) z fits q w M (word f) s l g
           (store ∙ ap (λ (v : ℕ). put (within M (codeDef 2048 z)) (word v (twos 2048 z))) (sym u)) t o p;
     }
 
@@ -182,8 +182,8 @@ module _ (f x b : ℕ) (z : ℤ) where
 
   -- a width that no compressed form has, or a register that is none of the eight
   module _ (v : areValid x b ≡ true) where
-    refused : (len : Width) → writeOf loads Load.speech (Load.mk x b z len true false) ≡ Refused (unwritten x b)
-        → writeOf stores Store.speech (Store.mk x b z len true) ≡ Refused (unwritten x b) → Compressed f x b z len (Refused 9)
+    refused : (len : Width) → writeOf loads Load.meaning (Load.mk x b z len true false) ≡ Refused (unwritten x b)
+        → writeOf stores Store.meaning (Store.mk x b z len true) ≡ Refused (unwritten x b) → Compressed f x b z len (Refused 9)
     refused len load store = record { as-load = λ _. nine x b v ∙ sym load; as-store = λ _. nine x b v ∙ sym store }
 
     pub no-width : (len : Width) → sizeOf len < 2 → Compressed f x b z len (Refused 9)

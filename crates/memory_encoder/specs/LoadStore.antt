@@ -11,7 +11,7 @@ use Rattle.utils.specs.declared.Width.{Width}
 use Rattle.profiles.specs.declared.Profile.{Profile}
 use Rattle.forms.specs.declared.Wrote.{Wrote}
 use Rattle.forms.specs.Layout.{Operand, imm, rd, rs1, rs2, funct, csr, short}
-use Rattle.forms.specs.Speech.{writeOf}
+use Rattle.forms.specs.Meaning.{writeOf}
 use Rattle.memory_decoder.specs.declared.LoadInstr.{LoadInstr}
 use Rattle.memory_decoder.specs.declared.StoreInstr.{StoreInstr}
 use Rattle.memory_decoder.specs.Forms.{loads, stores}
@@ -20,10 +20,10 @@ use Rattle.memory_decoder.specs.Store as Store
 
 -- writing asks nothing of the profile
 unfoldable pub encodeLoadDef : Profile → LoadInstr → Wrote
-encodeLoadDef p i = writeOf loads Load.speech i
+encodeLoadDef p i = writeOf loads Load.meaning i
 
 unfoldable pub encodeStoreDef : Profile → StoreInstr → Wrote
-encodeStoreDef p i = writeOf stores Store.speech i
+encodeStoreDef p i = writeOf stores Store.meaning i
 
 -- ---- what the encoder's own functions answer
 -- operands by their numbers: x is a load's rd or a store's rs2
@@ -38,8 +38,8 @@ operands x b f n short = 0
 
 -- what a compressed load or store of the register x is written as, by the funct3 f of its 32-bit form
 pub record Compressed (f x b : ℕ) (z : ℤ) (len : Width) (r : Wrote) : Type 0 where
-  pub as-load : f ≡ 0b010 → r ≡ writeOf loads Load.speech (Load.mk x b z len true false)
-  pub as-store : f ≡ 0b110 → r ≡ writeOf stores Store.speech (Store.mk x b z len true)
+  pub as-load : f ≡ 0b010 → r ≡ writeOf loads Load.meaning (Load.mk x b z len true false)
+  pub as-store : f ≡ 0b110 → r ≡ writeOf stores Store.meaning (Store.mk x b z len true)
 
 -- a code that is a multiple of s below l
 abbrev pub stepped : ℕ → ℕ → Code → Code

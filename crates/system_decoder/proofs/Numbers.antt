@@ -7,7 +7,7 @@ use Prim.Native.Nat.{ℕ, _^_}
 use native.Mathlib.Omega.{arith}
 use lib.Dec.{ltb}
 use Rattle.profiles.specs.declared.Profile.{Profile}
-use Rattle.forms.specs.Table.{Kind, form, none}
+use Rattle.forms.specs.Table.{Answer, value, refusal}
 use Rattle.forms.specs.Numbers.{OneOf}
 use Rattle.utils.proofs.Tests.{on}
 use Rattle.utils.proofs.Signed.{by-test}
@@ -17,7 +17,7 @@ use Rattle.system_decoder.specs.declared.IllegalInst.{IllegalInst}
 use Rattle.system_decoder.specs.declared.IllegalRead.{IllegalRead}
 use Rattle.system_decoder.specs.declared.IllegalRead.the-variants.{Inst, Unknown, InvalidCsrOp}
 use Rattle.system_decoder.specs.declared.Shape.{Shape}
-use Rattle.system_decoder.specs.System.{numberOf, speech, accessAt, shapeAt, legalDef, readShape, illegalDef}
+use Rattle.system_decoder.specs.System.{numberOf, meaning, accessAt, shapeAt, legalDef, readShape, illegalDef}
 use Rattle.system_decoder.proofs.Legal.{legal, illegal}
 
 -- 0 exactly where there is an instruction, and 1 or 2 where there is none
@@ -35,18 +35,18 @@ refused Unknown n = inl refl
 refused InvalidCsrOp n = inr (inl refl)
 
 -- the number of a word that has no shape
-pub shape-number : (w n : ℕ) → shapeAt w ≡ none n → n ≡ 1
+pub shape-number : (w n : ℕ) → shapeAt w ≡ refusal n → n ≡ 1
 unfolding shapeAt accessAt
 shape-number w n =
-    on (λ (k : Kind Shape). k ≡ none n → n ≡ 1) (ltb w (2 ^ 32)) (λ _. reading-number system speech w n) (λ _. reading-number accesses speech w n)
+    on (λ (k : Answer Shape). k ≡ refusal n → n ≡ 1) (ltb w (2 ^ 32)) (λ _. reading-number system meaning w n) (λ _. reading-number accesses meaning w n)
 
-pub without-shape : (p : Profile) (w n : ℕ) → shapeAt w ≡ none n → numberOf (illegalDef p w) ≡ 1
+pub without-shape : (p : Profile) (w n : ℕ) → shapeAt w ≡ refusal n → numberOf (illegalDef p w) ≡ 1
 unfolding illegalDef
-without-shape p w n e = ap (λ (k : Kind Shape). numberOf (readShape p k)) e
+without-shape p w n e = ap (λ (k : Answer Shape). numberOf (readShape p k)) e
 
 -- and of one that has
-pub with-shape : (p : Profile) (w : ℕ) (s : Shape) → shapeAt w ≡ form s → numberOf (illegalDef p w) ≡ cond (legalDef p s) 0 2
+pub with-shape : (p : Profile) (w : ℕ) (s : Shape) → shapeAt w ≡ value s → numberOf (illegalDef p w) ≡ cond (legalDef p s) 0 2
 unfolding illegalDef
 with-shape p w s e =
-    ap (λ (k : Kind Shape). numberOf (readShape p k)) e
+    ap (λ (k : Answer Shape). numberOf (readShape p k)) e
     ∙ by-test (legalDef p s) (λ l. simp (legal p s l .1, l)) (λ l. simp (illegal p s l, l))

@@ -11,8 +11,8 @@ use Rattle.utils.specs.Field.{fld}
 use Rattle.utils.proofs.Digits.{halves}
 use Rattle.utils.proofs.Signed.{by-test}
 use Rattle.forms.specs.Layout.{Layout, all, width, matches, read, spares, readable, build, good}
-use Rattle.forms.specs.Table.{Kind, form, none, first}
-use Rattle.forms.specs.Speech.{readAs, readOf, bitOf}
+use Rattle.forms.specs.Table.{Answer, value, refusal, first}
+use Rattle.forms.specs.Meaning.{readAs, readOf, bitOf}
 use Rattle.utils.proofs.Tests.{both, on}
 use Rattle.forms.proofs.Laws.{read-build}
 use Rattle.forms.proofs.Facts.{Fact, is, isnt, Known, settles, fits, clears, by-facts}
@@ -26,12 +26,12 @@ use Rattle.system_decoder.specs.declared.IllegalRead.the-variants.{Unkno
 use Rattle.system_decoder.specs.Forms.{funct7, nth, fenced, wfi, mret, sret, sfence-vma, hfence-vvma, hfence-gvma, accesses, system}
 use Rattle.system_decoder.specs.declared.Shape.{Shape}
 use Rattle.system_decoder.specs.declared.Shape.the-variants.{Fence as fence, Access as access}
-use Rattle.system_decoder.specs.System.{numberOf, opCode, funct3, speech, accessAt, shapeAt}
+use Rattle.system_decoder.specs.System.{numberOf, opCode, funct3, meaning, accessAt, shapeAt}
 
 -- what is known of a word, by a table of SYSTEM words
 known : (T : List Layout) → all good T ≡ true → (w : ℕ) (fs : List Fact) → Known w fs → (settles fs T && clears fs []) ≡ true
-    → readOf T speech w ≡ readAs speech w (first (fits fs) T (numberOf Unknown))
-known T ok = by-facts T speech ok [] (numberOf Unknown) (λ w. refl)
+    → readOf T meaning w ≡ readAs meaning w (first (fits fs) T (numberOf Unknown))
+known T ok = by-facts T meaning ok [] (numberOf Unknown) (λ w. refl)
 
 -- a line that reads a word has its bits
 has : (w : ℕ) (L : Layout) → readable w L ≡ true → matches L w ≡ true
@@ -45,7 +45,7 @@ wholes = wfi ∷ mret ∷ sret ∷ sfence-vma ∷ hfence-vvma ∷ hfence-gvma �
 pub past-wholes : (w : ℕ) → (w < 2 ^ 32 → Unread w wholes) → shapeAt w ≡ accessAt w
 unfolding shapeAt accessAt
 past-wholes w h =
-    on (λ (k : Kind Shape). k ≡ accessAt w) (ltb w (2 ^ 32)) (λ e. ap (readAs speech w) (passed w wholes accesses (numberOf Unknown) (h (ltb-true w (2 ^ 32) e)))) (λ _. refl)
+    on (λ (k : Answer Shape). k ≡ accessAt w) (ltb w (2 ^ 32)) (λ e. ap (readAs meaning w) (passed w wholes accesses (numberOf Unknown) (h (ltb-true w (2 ^ 32) e)))) (λ _. refl)
 
 -- bits 14:7 zero, and everything from bit 25 up equal to k
 pub record FenceForm (w k : ℕ) : Type 0 where
@@ -93,9 +93,9 @@ unfit-csr w n = unread w (isnt 12 2 0b00 ∷ []) (n, tt) wholes refl
 abbrev fenceFacts : ℕ → List Fact
 fenceFacts v = is 25 7 v ∷ is 12 3 0b000 ∷ is 7 5 0b00000 ∷ is 0 7 0x73 ∷ []
 
-pub at-fence : (w : ℕ) (f : Fence) → w % 2 ^ 7 ≡ 0x73 → FenceForm w (funct7 f) → shapeAt w ≡ form (fence f (fld w 15 5) (fld w 20 5))
+pub at-fence : (w : ℕ) (f : Fence) → w % 2 ^ 7 ≡ 0x73 → FenceForm w (funct7 f) → shapeAt w ≡ value (fence f (fld w 15 5) (fld w 20 5))
 unfolding shapeAt
-at-fence w f e h = ap (λ (b : Bool). cond b (readOf system speech w) (accessAt w)) (lt-ltb w (2 ^ 32) (small (funct7 f) (seven f) (h .above))) ∙ line f (h .above)
+at-fence w f e h = ap (λ (b : Bool). cond b (readOf system meaning w) (accessAt w)) (lt-ltb w (2 ^ 32) (small (funct7 f) (seven f) (h .above))) ∙ line f (h .above)
   where
     small : (k : ℕ) → k < 2 ^ 7 → w / 2 ^ 25 ≡ k → w < 2 ^ 32
     small k l q = omega arith
@@ -111,13 +111,13 @@ at-fence w f e h = ap (λ (b : Bool). cond b (readOf system speech w) (accessAt 
     facts : (v : ℕ) → v < 2 ^ 7 → w / 2 ^ 25 ≡ v → Known w (fenceFacts v)
     facts v l q = let z = zeros (h .middle) in (ap (λ (x : ℕ). x % 2 ^ 7) q ∙ mod-eq-of-lt l, (z .0, (z .1, (e, tt))))
 
-    line : (f : Fence) → w / 2 ^ 25 ≡ funct7 f → readOf system speech w ≡ form (fence f (fld w 15 5) (fld w 20 5))
+    line : (f : Fence) → w / 2 ^ 25 ≡ funct7 f → readOf system meaning w ≡ value (fence f (fld w 15 5) (fld w 20 5))
     line Vma q = known system refl w (fenceFacts (funct7 Vma)) (facts (funct7 Vma) (seven Vma) q) refl
     line Vvma q = known system refl w (fenceFacts (funct7 Vvma)) (facts (funct7 Vvma) (seven Vvma) q) refl
     line Gvma q = known system refl w (fenceFacts (funct7 Gvma)) (facts (funct7 Gvma) (seven Gvma) q) refl
 
 -- ---- CSR forms
-pub at-access : (w : ℕ) (o : CsrOp) (m : Bool) → w % 2 ^ 7 ≡ 0x73 → fld w 12 3 ≡ funct3 o m → accessAt w ≡ form (access o m (fld w 20 12) (fld w 7 5) (fld w 15 5))
+pub at-access : (w : ℕ) (o : CsrOp) (m : Bool) → w % 2 ^ 7 ≡ 0x73 → fld w 12 3 ≡ funct3 o m → accessAt w ≡ value (access o m (fld w 20 12) (fld w 7 5) (fld w 15 5))
 unfolding accessAt
 at-access w Write false e f = known accesses refl w (is 12 3 0b001 ∷ is 0 7 0x73 ∷ []) (f, (e, tt)) refl
 at-access w Set false e f = known accesses refl w (is 12 3 0b010 ∷ is 0 7 0x73 ∷ []) (f, (e, tt)) refl
@@ -127,17 +127,17 @@ at-access w Set true e f = known accesses refl w (is 12 3 0b110 ∷ is 0 7 0x73 
 at-access w Clear true e f = known accesses refl w (is 12 3 0b111 ∷ is 0 7 0x73 ∷ []) (f, (e, tt)) refl
 
 -- ---- words of no line
-pub at-foreign : (w : ℕ) → (w % 2 ^ 7 ≡ 0x73 → ⊥) → shapeAt w ≡ none (numberOf Unknown)
+pub at-foreign : (w : ℕ) → (w % 2 ^ 7 ≡ 0x73 → ⊥) → shapeAt w ≡ refusal (numberOf Unknown)
 unfolding shapeAt accessAt
 at-foreign w n =
-    on (λ (k : Kind Shape). k ≡ none (numberOf Unknown)) (ltb w (2 ^ 32))
+    on (λ (k : Answer Shape). k ≡ refusal (numberOf Unknown)) (ltb w (2 ^ 32))
     (λ _. known system refl w (isnt 0 7 0x73 ∷ []) (n, tt) refl) (λ _. known accesses refl w (isnt 0 7 0x73 ∷ []) (n, tt) refl)
 
 pub low-two : (w : ℕ) → fld w 12 3 % 4 ≡ fld w 12 2
 low-two w = omega arith
 
 -- bits 13:12 are zero: bits 14:12 are 0 or 4
-pub at-no-op : (w : ℕ) → w % 2 ^ 7 ≡ 0x73 → fld w 12 3 % 4 ≡ 0 → accessAt w ≡ none (numberOf Unknown)
+pub at-no-op : (w : ℕ) → w % 2 ^ 7 ≡ 0x73 → fld w 12 3 % 4 ≡ 0 → accessAt w ≡ refusal (numberOf Unknown)
 unfolding accessAt
 at-no-op w e z = known accesses refl w (is 0 7 0x73 ∷ is 12 2 0b00 ∷ []) (e, (sym (low-two w) ∙ z, tt)) refl
 

@@ -8,8 +8,8 @@ use lib.Dec.{eqb}
 use Rattle.utils.specs.Field.{fld}
 use Rattle.utils.proofs.Bits.{mask-field}
 use Rattle.utils.proofs.Digits.{fld-lt, same-high}
-use Rattle.forms.specs.Speech.{bitOf}
-use Rattle.forms.specs.Table.{form, none}
+use Rattle.forms.specs.Meaning.{bitOf}
+use Rattle.forms.specs.Table.{value, refusal}
 use Rattle.forms.proofs.Codes.{bit-one}
 use Rattle.system_decoder.specs.declared.CsrOp.{CsrOp}
 use Rattle.system_decoder.specs.declared.Fence.{Fence}
@@ -26,7 +26,7 @@ use Rattle.system_decoder.proofs.SystemLines.{FenceForm, past-wholes, u
 pub opcode : (w : ℕ) → bitAnd w 0x7F ≡ 0x73 → w % 2 ^ 7 ≡ 0x73
 opcode w e = sym (and-mask w 7) ∙ e
 
-pub foreign : (w : ℕ) → (bitAnd w 0x7F ≡ 0x73 → ⊥) → none (numberOf Unknown) ≡ shapeAt w
+pub foreign : (w : ℕ) → (bitAnd w 0x7F ≡ 0x73 → ⊥) → refusal (numberOf Unknown) ≡ shapeAt w
 foreign w n = sym (at-foreign w (λ e. n (and-mask w 7 ∙ e)))
 
 -- the bits that tell the fences
@@ -45,8 +45,8 @@ module _ (w : ℕ) (h : w < 2 ^ 64) (k : ℕ) where
 
 module _ (w : ℕ) (h : w < 2 ^ 64) where
   pub fenced : bitAnd w 0x7F ≡ 0x73 → (f : Fence) → bitAnd w fenceBits ≡ funct7 f * 2 ^ 25 → {s : Shape} → s ≡ fence f (fld w 15 5) (fld w 20 5)
-      → (form s ≡ shapeAt w) × FieldsOf w s
-  fenced e f q k = (ap form k ∙ sym (at-fence w f (opcode w e) (told-fence w h (funct7 f) q)), subst (FieldsOf w) (sym k) tt)
+      → (value s ≡ shapeAt w) × FieldsOf w s
+  fenced e f q k = (ap value k ∙ sym (at-fence w f (opcode w e) (told-fence w h (funct7 f) q)), subst (FieldsOf w) (sym k) tt)
 
   -- the word is none of WFI, MRET, SRET and the fences
   pub other : (w ≡ 0x10500073 → ⊥) → (w ≡ 0x30200073 → ⊥) → (w ≡ 0x10200073 → ⊥)
@@ -61,7 +61,7 @@ module _ (w : ℕ) (h : w < 2 ^ 64) where
 
 -- ---- access_at
 module _ (w : ℕ) where
-  pub no-op : w % 2 ^ 7 ≡ 0x73 → bitAnd (w / 2 ^ 12) 3 ≡ 0 → none (numberOf Unknown) ≡ accessAt w
+  pub no-op : w % 2 ^ 7 ≡ 0x73 → bitAnd (w / 2 ^ 12) 3 ≡ 0 → refusal (numberOf Unknown) ≡ accessAt w
   no-op e z = sym (at-no-op w e (low-two w ∙ sym (mask-field w 12 2) ∙ z))
 
   pub some-code : (bitAnd (w / 2 ^ 12) 3 ≡ 0 → ⊥) → (1 ≤ bitAnd (w / 2 ^ 12) 3) × (bitAnd (w / 2 ^ 12) 3 ≤ 3)
@@ -82,10 +82,10 @@ module _ (w : ℕ) where
   )
 
   pub accessed : w % 2 ^ 7 ≡ 0x73 → (o : CsrOp) → opCode o ≡ bitAnd (w / 2 ^ 12) 3
-      → form (access o (eqb (bitAnd (w / 2 ^ 14) 1) 1) (bitAnd (w / 2 ^ 20) 4095) (bitAnd (w / 2 ^ 7) 31) (bitAnd (w / 2 ^ 15) 31)) ≡ accessAt w
+      → value (access o (eqb (bitAnd (w / 2 ^ 14) 1) 1) (bitAnd (w / 2 ^ 20) 4095) (bitAnd (w / 2 ^ 7) 31) (bitAnd (w / 2 ^ 15) 31)) ≡ accessAt w
   accessed e o c =
       let f = fields o c in
-      (λ j. form (access o (eqb (mask-field w 14 1 j) 1) (mask-field w 20 12 j) (mask-field w 7 5 j) (mask-field w 15 5 j)))
+      (λ j. value (access o (eqb (mask-field w 14 1 j) 1) (mask-field w 20 12 j) (mask-field w 7 5 j) (mask-field w 15 5 j)))
       ∙ sym (at-access w o (eqb (fld w 14 1) 1) e (whole (opCode o) (bitOf (eqb (fld w 14 1) 1)) (sym (f .0)) (bit-one (fld w 14 1) (fld-lt w 14 1))))
     where
       whole : (k b : ℕ) → k ≡ fld w 12 2 → b ≡ fld w 14 1 → fld w 12 3 ≡ k + 4 * b

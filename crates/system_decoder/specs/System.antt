@@ -15,8 +15,8 @@ use Rattle.csrs.specs.declared.CsrLookup.the-variants.{Found, Missing}
 use Rattle.profiles.specs.declared.Profile.{Profile}
 use Rattle.csrs.specs.Gates.{decodeCsrDef, available}
 use Rattle.forms.specs.Layout.{Operand, imm, rd, rs1, rs2, funct, csr, short}
-use Rattle.forms.specs.Table.{Kind, form, none}
-use Rattle.forms.specs.Speech.{Speech, readOf, bitOf}
+use Rattle.forms.specs.Table.{Answer, value, refusal}
+use Rattle.forms.specs.Meaning.{Meaning, readOf, bitOf}
 use Rattle.system_decoder.specs.Forms.{system, accesses}
 use Rattle.system_decoder.specs.declared.CsrOp.{CsrOp}
 use Rattle.system_decoder.specs.declared.CsrOp.the-variants.{Write, Set, Clear}
@@ -39,9 +39,9 @@ numberOf InvalidCsrOp = 2
 
 -- ---- a word by its fields alone: no profile, and an address where an instruction has a register
 -- (the code's `Shape`; an access says whether it is immediate, the address, rd, and rs1 or uimm)
-abbrev pub shapeIn : Shaped → Kind Shape
-shapeIn (Is s) = form s
-shapeIn (Refused n) = none n
+abbrev pub shapeIn : Shaped → Answer Shape
+shapeIn (Is s) = value s
+shapeIn (Refused n) = refusal n
 
 -- funct3's low two bits, which are also the log's operation codes
 abbrev pub opCode : CsrOp → ℕ
@@ -107,16 +107,16 @@ operandsOf (fence f a b) = operands (lineOf (fence f a b)) 0 a b 0
 operandsOf (access o m a d x) = operands (lineOf (access o m a d x)) d x 0 a
 
 -- a word that has no line is unknown; a shape that has none has a register above 31
-abbrev pub speech : Speech Shape
-speech = record { make = λ env. getD (shapes env) (env funct) wfi; ops = operandsOf; code = λ s. IsCode 0; is-short = λ s. false; why = λ w. numberOf Unknown; why-not = λ s. 6 }
+abbrev pub meaning : Meaning Shape
+meaning = record { make = λ env. getD (shapes env) (env funct) wfi; ops = operandsOf; code = λ s. IsCode 0; is-short = λ s. false; reading-refusal = λ w. numberOf Unknown; writing-refusal = λ s. 6 }
 
 -- CSR forms ignore bits above 31
-unfoldable pub accessAt : ℕ → Kind Shape
-accessAt w = readOf accesses speech w
+unfoldable pub accessAt : ℕ → Answer Shape
+accessAt w = readOf accesses meaning w
 
 -- and WFI, MRET, SRET and the fences are whole words
-unfoldable pub shapeAt : ℕ → Kind Shape
-shapeAt w = cond (ltb w (2 ^ 32)) (readOf system speech w) (accessAt w)
+unfoldable pub shapeAt : ℕ → Answer Shape
+shapeAt w = cond (ltb w (2 ^ 32)) (readOf system meaning w) (accessAt w)
 
 -- registers and uimm below 32 and an address below 4096, as in every word
 abbrev pub Low : Shape → Type 0
@@ -190,9 +190,9 @@ instAt p (fence f a b) = Inst (fenceOf f a b)
 instAt p (access o m a d x) = cond (barredDef a (always o) x) InvalidCsrOp (foundDef (decodeCsrDef p a) o m d x)
 
 -- ---- the reading
-abbrev pub readShape : Profile → Kind Shape → IllegalRead
-readShape p (form s) = instAt p s
-readShape p (none n) = Unknown
+abbrev pub readShape : Profile → Answer Shape → IllegalRead
+readShape p (value s) = instAt p s
+readShape p (refusal n) = Unknown
 
 unfoldable pub illegalDef : Profile → ℕ → IllegalRead
 illegalDef p w = readShape p (shapeAt w)

@@ -10,8 +10,8 @@ use lib.Bits.{bitAnd, bitOr, and-mask}
 use lib.Dec.{leb}
 use Rattle.forms.specs.declared.Wrote.the-variants.{Word}
 use Rattle.forms.specs.Layout.{Layout, Operand, imm, rd, rs1, rs2, funct, csr, short, all, width, holds, good, build}
-use Rattle.forms.specs.Table.{form, none, numberIn, first}
-use Rattle.forms.specs.Speech.{writeAs, writeOf, put}
+use Rattle.forms.specs.Table.{value, refusal, numberIn, first}
+use Rattle.forms.specs.Meaning.{writeAs, writeOf, put}
 use Rattle.forms.proofs.Facts.{under}
 use Rattle.forms.proofs.Choices.{Told, exactly, such, KnownAs, picks, drops, by-operands}
 use Rattle.forms.proofs.Shifts.{orBuild, put-together}
@@ -23,7 +23,7 @@ use Rattle.system_decoder.specs.declared.Fence.the-variants.{Vma, Vvma, Gvma}
 use Rattle.system_decoder.specs.Forms.{funct7, sfence-vma, hfence-vvma, hfence-gvma, csrrw, csrrs, csrrc, csrrwi, csrrsi, csrrci, system}
 use Rattle.system_decoder.specs.declared.Shape.{Shape}
 use Rattle.system_decoder.specs.declared.Shape.the-variants.{Fence as fence, Access as access}
-use Rattle.system_decoder.specs.System.{operands, operandsOf, funct3, always, barredDef, speech}
+use Rattle.system_decoder.specs.System.{operands, operandsOf, funct3, always, barredDef, meaning}
 use Rattle.registers.specs.Numbers.{areValid}
 use Rattle.profiles.specs.declared.Profile.{Profile}
 use Rattle.csrs.specs.Gates.{available}
@@ -42,11 +42,11 @@ told k d a b c short = exactly 0
 
 -- a shape of which this settles that the line is L is written by L
 module _ (s : Shape) (ks : Operand → Told) (h : (x : Operand) → KnownAs (operandsOf s x) (ks x)) (L : Layout) where
-  by-line : all (λ M. drops ks M || picks ks M) system ≡ true → first (λ M. not (drops ks M)) system 6 ≡ form L → holds L imm 0 ≡ true → good L ≡ true → leb (width L) 64 ≡ true
-      → {r : ℕ} → r ≡ orBuild L (operandsOf s) → Word r ≡ writeOf system speech s
+  by-line : all (λ M. drops ks M || picks ks M) system ≡ true → first (λ M. not (drops ks M)) system 6 ≡ value L → holds L imm 0 ≡ true → good L ≡ true → leb (width L) 64 ≡ true
+      → {r : ℕ} → r ≡ orBuild L (operandsOf s) → Word r ≡ writeOf system meaning s
   by-line t f i g l e =
       ap Word (e ∙ put-together L g l (operandsOf s)) ∙ ap (λ (b : Bool). put (cond b (Is 0) Out) (build L (operandsOf s))) (sym i)
-      ∙ ap (writeAs speech s) (sym f) ∙ sym (by-operands system speech refl s ks h t)
+      ∙ ap (writeAs meaning s) (sym f) ∙ sym (by-operands system meaning refl s ks h t)
 
 -- the code does not mask what it has tested
 unmasked : (n x : ℕ) → x < 2 ^ n → x ≡ bitAnd x (2 ^ n - 1)
@@ -68,7 +68,7 @@ module _ (a d x : ℕ) (la : a < 2 ^ 12) (ld : d ≤ 31) (lx : x ≤ 31) where
   masks : (f : ℕ) → accessWord a x f d ≡ accessWord (bitAnd a 4095) (bitAnd x 31) f (bitAnd d 31)
   masks f = λ j. accessWord (unmasked 12 a la j) (unmasked 5 x (omega arith) j) f (unmasked 5 d (omega arith) j)
 
-  pub access-word : (o : CsrOp) (m : Bool) → Word (accessWord a x (funct3 o m * 2 ^ 12) d) ≡ writeOf system speech (access o m a d x)
+  pub access-word : (o : CsrOp) (m : Bool) → Word (accessWord a x (funct3 o m * 2 ^ 12) d) ≡ writeOf system meaning (access o m a d x)
   access-word Write false = by-line (access Write false a d x) (accessTold 6) (known (access Write false a d x) 6 refl) csrrw refl refl refl refl refl (masks 0x1000)
   access-word Set false = by-line (access Set false a d x) (accessTold 7) (known (access Set false a d x) 7 refl) csrrs refl refl refl refl refl (masks 0x2000)
   access-word Clear false = by-line (access Clear false a d x) (accessTold 8) (known (access Clear false a d x) 8 refl) csrrc refl refl refl refl refl (masks 0x3000)
@@ -92,7 +92,7 @@ module _ (a b : ℕ) (la : a ≤ 31) (lb : b ≤ 31) where
   fence-masks : (f : ℕ) → fenceWord f a b ≡ fenceWord f (bitAnd a 31) (bitAnd b 31)
   fence-masks f = λ j. fenceWord f (unmasked 5 a (omega arith) j) (unmasked 5 b (omega arith) j)
 
-  pub fence-word : (f : Fence) → Word (fenceWord (funct7 f * 2 ^ 25) a b) ≡ writeOf system speech (fence f a b)
+  pub fence-word : (f : Fence) → Word (fenceWord (funct7 f * 2 ^ 25) a b) ≡ writeOf system meaning (fence f a b)
   fence-word Vma = by-line (fence Vma a b) (fenceTold 3) (fence-known (fence Vma a b) 3 refl) sfence-vma refl refl refl refl refl (fence-masks (funct7 Vma * 2 ^ 25))
   fence-word Vvma = by-line (fence Vvma a b) (fenceTold 4) (fence-known (fence Vvma a b) 4 refl) hfence-vvma refl refl refl refl refl (fence-masks (funct7 Vvma * 2 ^ 25))
   fence-word Gvma = by-line (fence Gvma a b) (fenceTold 5) (fence-known (fence Gvma a b) 5 refl) hfence-gvma refl refl refl refl refl (fence-masks (funct7 Gvma * 2 ^ 25))
@@ -100,8 +100,8 @@ module _ (a b : ℕ) (la : a ≤ 31) (lb : b ≤ 31) where
 -- ---- 6, 7 and 8 of an access: v is what `are_valid` gave, t `is_available`, b `is_barred`
 module _ (p : Profile) (o : CsrOp) (a d x : ℕ) {v : Bool} (e : v ≡ areValid d x) where
   asked : (u t b : Bool) → v ≡ u → t ≡ available p a → b ≡ barredDef a (always o) x → (m : Bool)
-      → numberIn (cond u (reached t b (access o m a d x)) (none 6)) ≡ numberIn (checkedDef p (access o m a d x))
-  asked u t b q f g m = λ j. numberIn (cond ((sym q ∙ e) j) (reached (f j) (g j) (access o m a d x)) (none 6))
+      → numberIn (cond u (reached t b (access o m a d x)) (refusal 6)) ≡ numberIn (checkedDef p (access o m a d x))
+  asked u t b q f g m = λ j. numberIn (cond ((sym q ∙ e) j) (reached (f j) (g j) (access o m a d x)) (refusal 6))
 
   pub past-31 : not v ≡ true → (m : Bool) → 6 ≡ numberIn (checkedDef p (access o m a d x))
   past-31 q = asked false (available p a) (barredDef a (always o) x) (not-true v q) refl refl

@@ -10,8 +10,8 @@ use Rattle.profiles.specs.declared.Profile.{Profile}
 use Rattle.csrs.specs.Gates.{available}
 use Rattle.forms.specs.declared.Wrote.{Wrote}
 use Rattle.forms.specs.declared.Wrote.the-variants.{Refused}
-use Rattle.forms.specs.Table.{Kind, form, none}
-use Rattle.forms.specs.Speech.{writeOf}
+use Rattle.forms.specs.Table.{Answer, value, refusal}
+use Rattle.forms.specs.Meaning.{writeOf}
 use Rattle.system_decoder.specs.declared.CsrOp.{CsrOp}
 use Rattle.system_decoder.specs.declared.CsrOp.the-variants.{Write, Set, Clear}
 use Rattle.system_decoder.specs.declared.Fence.the-variants.{Vma, Vvma, Gvma}
@@ -20,20 +20,20 @@ use Rattle.system_decoder.specs.declared.IllegalInst.the-variants.{Wfi, Csrrw, 
 use Rattle.system_decoder.specs.Forms.{system}
 use Rattle.system_decoder.specs.declared.Shape.{Shape}
 use Rattle.system_decoder.specs.declared.Shape.the-variants.{Wfi as wfi, Mret as mret, Sret as sret, Fence as fence, Access as access}
-use Rattle.system_decoder.specs.System.{always, barredDef, speech}
+use Rattle.system_decoder.specs.System.{always, barredDef, meaning}
 
 -- ---- document 01's checks of a shape that may hold any numbers, in its order
 -- 7: the register is not available; 8: the operation writes a read-only register
-abbrev pub reached : Bool → Bool → Shape → Kind Shape
-reached there barred s = cond there (cond barred (none 8) (form s)) (none 7)
+abbrev pub reached : Bool → Bool → Shape → Answer Shape
+reached there barred s = cond there (cond barred (refusal 8) (value s)) (refusal 7)
 
 -- 6: a register or uimm above 31
-abbrev pub checkedDef : Profile → Shape → Kind Shape
-checkedDef p wfi = form wfi
-checkedDef p mret = form mret
-checkedDef p sret = form sret
-checkedDef p (fence f a b) = cond (areValid a b) (form (fence f a b)) (none 6)
-checkedDef p (access o m a d x) = cond (areValid d x) (reached (available p a) (barredDef a (always o) x) (access o m a d x)) (none 6)
+abbrev pub checkedDef : Profile → Shape → Answer Shape
+checkedDef p wfi = value wfi
+checkedDef p mret = value mret
+checkedDef p sret = value sret
+checkedDef p (fence f a b) = cond (areValid a b) (value (fence f a b)) (refusal 6)
+checkedDef p (access o m a d x) = cond (areValid d x) (reached (available p a) (barredDef a (always o) x) (access o m a d x)) (refusal 6)
 
 -- ---- the shape of an instruction
 -- a register that has no address of its own gets 4096, where no profile has one
@@ -58,13 +58,13 @@ ownShape (Sfencevma a b) = fence Vma (a .0) (b .0)
 ownShape (Hfencevvma a b) = fence Vvma (a .0) (b .0)
 ownShape (Hfencegvma a b) = fence Gvma (a .0) (b .0)
 
-abbrev pub shapeFor : Profile → IllegalInst → Kind Shape
+abbrev pub shapeFor : Profile → IllegalInst → Answer Shape
 shapeFor p i = checkedDef p (ownShape i)
 
 -- ---- the writing
-abbrev pub writeShape : Kind Shape → Wrote
-writeShape (form s) = writeOf system speech s
-writeShape (none n) = Refused n
+abbrev pub writeShape : Answer Shape → Wrote
+writeShape (value s) = writeOf system meaning s
+writeShape (refusal n) = Refused n
 
 unfoldable pub encodeIllegalDef : Profile → IllegalInst → Wrote
 encodeIllegalDef p i = writeShape (shapeFor p i)

@@ -5,9 +5,9 @@ ghost use mathlib.Core.Bool.{Bool};
 ghost use Prim.Native.Nat.{_*_, _^_};
 ghost use Rattle.forms.specs.declared.Wrote.the-variants.{Word};
 ghost use Rattle.forms.specs.Table.{numberIn};
-ghost use Rattle.forms.specs.Speech.{writeOf};
+ghost use Rattle.forms.specs.Meaning.{writeOf};
 ghost use Rattle.system_decoder.specs.Forms.{funct7, system};
-ghost use Rattle.system_decoder.specs.System.{Low, funct3, speech};
+ghost use Rattle.system_decoder.specs.System.{Low, funct3, meaning};
 ghost use Rattle.system_encoder.specs.System.{checkedDef, accessTo, ownShape, writeShape, encodeIllegalDef};
 use forms::Wrote;
 use profiles::Profile;
@@ -130,7 +130,7 @@ fn access_refusal(ctx: Profile, op: CsrOp, csr: usize, rd: usize, src: usize) ->
 // The word of a shape whose numbers fit.
 fn word_of(shape: Shape) -> u64
     requires { ⌜ Low shape ⌝ }
-    ensures { λ r. ⌜ Word r ≡ writeOf system speech shape ⌝ }
+    ensures { λ r. ⌜ Word r ≡ writeOf system meaning shape ⌝ }
 {
     match shape {
         Shape::Wfi => 0b00010000010100000000000001110011,

@@ -6,7 +6,7 @@ use lib.ListN.{length}
 use denote.Ref.{now}
 use Rattle.profiles.specs.declared.Profile.{Profile}
 use Rattle.profiles.specs.Profile.{emptyProfile}
-use Rattle.forms.specs.Table.{Kind}
+use Rattle.forms.specs.Table.{Answer}
 use Rattle.log_records.specs.Record.{recordDef, writtenDef, writtenOut}
 use Rattle.matnosoru.specs.Abi.{length-or}
 use borrow.Author.Needs.{needs}
@@ -25,6 +25,6 @@ put-record-spec =
     let a = c .before .before .before .before .before .before .before .args in
     let w = c .before .before .before .write-record in
     let e : recordDef (c .before .before .before .before .before .from-flags .result) (a .«record») ≡ recordDef emptyProfile (a .«record») = ap (λ (p : Profile). recordDef p (a .«record»)) (c .before .before .before .before .before .from-flags .ensures) in (
-      c .length-of .ensures ∙ ap length-or (w .ensures .0 ∙ ap (λ (k : Kind (List ℕ)). writtenDef k (length (now (a .out)))) e),
-      w .ensures .1 ∙ ap (λ (k : Kind (List ℕ)). writtenOut k (now (a .out))) e,
+      c .length-of .ensures ∙ ap length-or (w .ensures .0 ∙ ap (λ (k : Answer (List ℕ)). writtenDef k (length (now (a .out)))) e),
+      w .ensures .1 ∙ ap (λ (k : Answer (List ℕ)). writtenOut k (now (a .out))) e,
     )))

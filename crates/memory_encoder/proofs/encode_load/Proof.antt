@@ -18,15 +18,15 @@ use Rattle.registers.proofs.Numbers.{valid, not-valid}
 use Rattle.forms.specs.declared.Wrote.{Wrote}
 use Rattle.forms.specs.declared.Wrote.the-variants.{Word, Refused}
 use Rattle.forms.specs.Layout.{build}
-use Rattle.forms.specs.Speech.{bitOf, within, put, writeOf, writeAs}
-use Rattle.forms.specs.Table.{form}
+use Rattle.forms.specs.Meaning.{bitOf, within, put, writeOf, writeAs}
+use Rattle.forms.specs.Table.{value}
 use Rattle.forms.proofs.Facts.{is, isnt, under}
 use Rattle.forms.proofs.Choices.{exactly, such}
 use Rattle.memory_decoder.specs.declared.LoadInstr.{LoadInstr}
 use Rattle.memory_decoder.specs.Access.{unwritten}
 use Rattle.memory_decoder.specs.Forms.{loads, load}
 use Rattle.memory_decoder.specs.Funct3.{funct3Of}
-use Rattle.memory_decoder.specs.Load.{speech, mk}
+use Rattle.memory_decoder.specs.Load.{meaning, mk}
 use Rattle.memory_encoder.specs.LoadStore.{encodeLoadDef, operands}
 use Rattle.memory_encoder.proofs.Funct3.{size-lt, funct3-lt}
 use Rattle.memory_encoder.proofs.Writing.{load-line, anything, low, past, is-low, is-past, nine, six, putCode, put-long, loaded}
@@ -34,34 +34,34 @@ use Rattle.memory_encoder.proofs.encode_load.Statement.{statement}
 use Rattle.memory_encoder.proofs.encode_load.Tie as tie
 
 -- a register above 31
-no-registers : (i : LoadInstr) → areValid (i .rd .0) (i .rs1 .0) ≡ false → Refused 6 ≡ writeOf loads speech i
+no-registers : (i : LoadInstr) → areValid (i .rd .0) (i .rs1 .0) ≡ false → Refused 6 ≡ writeOf loads meaning i
 no-registers i e =
     six (i .rd .0) (i .rs1 .0) e
     ∙ sym
-    (not-valid {X = writeOf loads speech i ≡ Refused (unwritten (i .rd .0) (i .rs1 .0))} (i .rd .0) (i .rs1 .0) e
+    (not-valid {X = writeOf loads meaning i ≡ Refused (unwritten (i .rd .0) (i .rs1 .0))} (i .rd .0) (i .rs1 .0) e
     (λ h. load-line past anything anything anything i (is-past _ h) tt tt tt refl) (λ h. load-line anything past anything anything i tt (is-past _ h) tt tt refl))
 
 -- a compressed load: none is unsigned
 module _ (i : LoadInstr) (short : i .«is_compressed» ≡ true) where
-  no-unsigned : areValid (i .rd .0) (i .rs1 .0) ≡ true → i .«is_unsigned» ≡ true → Refused 9 ≡ writeOf loads speech i
+  no-unsigned : areValid (i .rd .0) (i .rs1 .0) ≡ true → i .«is_unsigned» ≡ true → Refused 9 ≡ writeOf loads meaning i
   no-unsigned v u = nine (i .rd .0) (i .rs1 .0) v ∙ sym (load-line anything anything (such (is 2 1 0b1 ∷ [])) (exactly 1) i tt tt (sign, tt) (ap bitOf short) refl)
     where
       sign : funct3Of (i .len) (i .«is_unsigned») / 2 ^ 2 % 2 ^ 1 ≡ 1
       sign = ap (λ (b : Bool). funct3Of (i .len) b / 2 ^ 2 % 2 ^ 1) u ∙ (let h = size-lt (i .len) in omega arith)
 
   by-short : i .«is_unsigned» ≡ false → SFits w64 (i .imm) → {r : Wrote}
-      → r ≡ writeOf loads speech (mk (i .rd .0) (i .rs1 .0) (toZ w64 (ofZ w64 (i .imm))) (i .len) true false) → r ≡ writeOf loads speech i
+      → r ≡ writeOf loads meaning (mk (i .rd .0) (i .rs1 .0) (toZ w64 (ofZ w64 (i .imm))) (i .len) true false) → r ≡ writeOf loads meaning i
   by-short u fits e =
-      e ∙ ap (λ (z : ℤ). writeOf loads speech (mk (i .rd .0) (i .rs1 .0) z (i .len) true false)) (toZ-ofZ w64 (i .imm) fits)
-      ∙ ap (writeOf loads speech) (loaded i short u)
+      e ∙ ap (λ (z : ℤ). writeOf loads meaning (mk (i .rd .0) (i .rs1 .0) z (i .len) true false)) (toZ-ofZ w64 (i .imm) fits)
+      ∙ ap (writeOf loads meaning) (loaded i short u)
 
 -- a load of 32 bits; f is its funct3
 module _ (i : LoadInstr) (long : i .«is_compressed» ≡ false) (v : areValid (i .rd .0) (i .rs1 .0) ≡ true) (f : ℕ) (e : f ≡ funct3Of (i .len) (i .«is_unsigned»)) where
-  unsigned-double : f ≡ 7 → Refused 9 ≡ writeOf loads speech i
+  unsigned-double : f ≡ 7 → Refused 9 ≡ writeOf loads meaning i
   unsigned-double h = nine (i .rd .0) (i .rs1 .0) v ∙ sym (load-line anything anything (exactly 7) (exactly 0) i tt tt (sym e ∙ h) (ap bitOf long) refl)
 
   module _ (not-seven : f ≡ 7 → ⊥) where
-    the-line : writeAs speech i (form load) ≡ writeOf loads speech i
+    the-line : writeAs meaning i (value load) ≡ writeOf loads meaning i
     the-line =
         let t = funct3-lt (i .len) (i .«is_unsigned») in
         let r = valid (i .rd .0) (i .rs1 .0) v in
@@ -71,7 +71,7 @@ module _ (i : LoadInstr) (long : i .«is_compressed» ≡ false) (v : areValid (
 
     -- c is what `code_of` found, k the arm, r its answer
     by-code : SFits w64 (i .imm) → {c k : Code} {r : Wrote} → c ≡ codeDef 2048 (toZ w64 (ofZ w64 (i .imm))) → c ≡ k
-        → r ≡ putCode (λ n. build load (operands (i .rd .0) (i .rs1 .0) f n)) k → r ≡ writeOf loads speech i
+        → r ≡ putCode (λ n. build load (operands (i .rd .0) (i .rs1 .0) f n)) k → r ≡ writeOf loads meaning i
     by-code fits d q p =
         put-long load (λ n. build load (operands (i .rd .0) (i .rs1 .0) f n)) (i .imm) fits q p (λ n. refl) d
         ∙ ap (λ (g : ℕ). put (within load (codeDef 2048 (i .imm))) (build load (operands (i .rd .0) (i .rs1 .0) g (twos 2048 (i .imm))))) e ∙ the-line

@@ -17,15 +17,15 @@ use Rattle.registers.proofs.Numbers.{valid, not-valid}
 use Rattle.forms.specs.declared.Wrote.{Wrote}
 use Rattle.forms.specs.declared.Wrote.the-variants.{Word, Refused}
 use Rattle.forms.specs.Layout.{build}
-use Rattle.forms.specs.Speech.{bitOf, within, put, writeOf, writeAs}
-use Rattle.forms.specs.Table.{form}
+use Rattle.forms.specs.Meaning.{bitOf, within, put, writeOf, writeAs}
+use Rattle.forms.specs.Table.{value}
 use Rattle.forms.proofs.Facts.{under}
 use Rattle.forms.proofs.Choices.{exactly, such}
 use Rattle.memory_decoder.specs.declared.StoreInstr.{StoreInstr}
 use Rattle.memory_decoder.specs.Access.{unwritten}
 use Rattle.memory_decoder.specs.Forms.{stores, store}
 use Rattle.memory_decoder.specs.Funct3.{sizeOf}
-use Rattle.memory_decoder.specs.Store.{speech, mk}
+use Rattle.memory_decoder.specs.Store.{meaning, mk}
 use Rattle.memory_encoder.specs.LoadStore.{encodeStoreDef, operands}
 use Rattle.memory_encoder.proofs.Funct3.{size-lt}
 use Rattle.memory_encoder.proofs.Writing.{store-line, anything, low, past, is-low, is-past, six, putCode, put-long, stored}
@@ -33,29 +33,29 @@ use Rattle.memory_encoder.proofs.encode_store.Statement.{statement}
 use Rattle.memory_encoder.proofs.encode_store.Tie as tie
 
 -- a register above 31
-no-registers : (i : StoreInstr) → areValid (i .rs2 .0) (i .rs1 .0) ≡ false → Refused 6 ≡ writeOf stores speech i
+no-registers : (i : StoreInstr) → areValid (i .rs2 .0) (i .rs1 .0) ≡ false → Refused 6 ≡ writeOf stores meaning i
 no-registers i e =
     six (i .rs2 .0) (i .rs1 .0) e
     ∙ sym
-    (not-valid {X = writeOf stores speech i ≡ Refused (unwritten (i .rs2 .0) (i .rs1 .0))} (i .rs2 .0) (i .rs1 .0) e
+    (not-valid {X = writeOf stores meaning i ≡ Refused (unwritten (i .rs2 .0) (i .rs1 .0))} (i .rs2 .0) (i .rs1 .0) e
     (λ h. store-line past anything anything anything i (is-past _ h) tt tt tt refl) (λ h. store-line anything past anything anything i tt (is-past _ h) tt tt refl))
 
 -- a compressed store
 by-short : (i : StoreInstr) → i .«is_compressed» ≡ true → SFits w64 (i .imm) → {r : Wrote}
-    → r ≡ writeOf stores speech (mk (i .rs2 .0) (i .rs1 .0) (toZ w64 (ofZ w64 (i .imm))) (i .len) true) → r ≡ writeOf stores speech i
+    → r ≡ writeOf stores meaning (mk (i .rs2 .0) (i .rs1 .0) (toZ w64 (ofZ w64 (i .imm))) (i .len) true) → r ≡ writeOf stores meaning i
 by-short i short fits e =
-    e ∙ ap (λ (z : ℤ). writeOf stores speech (mk (i .rs2 .0) (i .rs1 .0) z (i .len) true)) (toZ-ofZ w64 (i .imm) fits) ∙ ap (writeOf stores speech) (stored i short)
+    e ∙ ap (λ (z : ℤ). writeOf stores meaning (mk (i .rs2 .0) (i .rs1 .0) z (i .len) true)) (toZ-ofZ w64 (i .imm) fits) ∙ ap (writeOf stores meaning) (stored i short)
 
 -- a store of 32 bits; f is its funct3
 module _ (i : StoreInstr) (long : i .«is_compressed» ≡ false) (v : areValid (i .rs2 .0) (i .rs1 .0) ≡ true) (f : ℕ) (e : f ≡ sizeOf (i .len)) where
-  the-line : writeAs speech i (form store) ≡ writeOf stores speech i
+  the-line : writeAs meaning i (value store) ≡ writeOf stores meaning i
   the-line =
       let r = valid (i .rs2 .0) (i .rs1 .0) v in
       sym (store-line low low (such (under 2 ∷ [])) (exactly 0) i (is-low _ (r .0)) (is-low _ (r .1)) (size-lt (i .len), tt) (ap bitOf long) refl)
 
   -- c is what `code_of` found, k the arm, r its answer
   by-code : SFits w64 (i .imm) → {c k : Code} {r : Wrote} → c ≡ codeDef 2048 (toZ w64 (ofZ w64 (i .imm))) → c ≡ k
-      → r ≡ putCode (λ n. build store (operands (i .rs2 .0) (i .rs1 .0) f n)) k → r ≡ writeOf stores speech i
+      → r ≡ putCode (λ n. build store (operands (i .rs2 .0) (i .rs1 .0) f n)) k → r ≡ writeOf stores meaning i
   by-code fits d q p =
       put-long store (λ n. build store (operands (i .rs2 .0) (i .rs1 .0) f n)) (i .imm) fits q p (λ n. refl) d
       ∙ ap (λ (g : ℕ). put (within store (codeDef 2048 (i .imm))) (build store (operands (i .rs2 .0) (i .rs1 .0) g (twos 2048 (i .imm))))) e ∙ the-line
