@@ -1,5 +1,5 @@
 //! Makes the text of Miralis reachable for src/lib.rs, without a copy of it in the repository and without a changed line: whole
-//! files are modules by their path, and the few items that stand in a larger file are cut out of it as they are.
+//! files are modules by their path, and the few items that are in a larger file are cut out of it as they are.
 //!
 //! The folder is MIRALIS_SRC, the one that has `src/decoder.rs` below it, as a whole path. Where it is not there, the library is built
 //! empty (no `have_miralis`), so that the rest of the workspace still builds.
@@ -20,7 +20,7 @@ const ITEMS: [&str; 4] = ["pub struct ExtensionsCapability {", "pub enum Width {
 fn main() {
     println!("cargo::rustc-check-cfg=cfg(have_miralis)");
     println!("cargo::rerun-if-env-changed=MIRALIS_SRC");
-    // The packages that share this script stand two folders below the top.
+    // The packages that share this script are two folders below the top.
     let top = PathBuf::from(var("CARGO_MANIFEST_DIR")).join("../..");
     let folder = env::var_os("MIRALIS_SRC").filter(|f| !f.is_empty()).map_or_else(|| top.join(DEFAULT), PathBuf::from);
     // this script runs in its package's folder, which is not where a relative path was meant from
@@ -32,7 +32,7 @@ fn main() {
     let text = match folder.canonicalize() {
         Ok(folder) if FILES.iter().chain([&ARCH]).all(|f| folder.join(f).is_file()) => {
             println!("cargo::rustc-cfg=have_miralis");
-            // for the build scripts of those that stand on this package
+            // for the build scripts of those that depend on this package
             println!("cargo::metadata=have=1");
             modules(&folder, &decoder(&top, &folder))
         }
@@ -41,7 +41,7 @@ fn main() {
     fs::write(&out, text).unwrap_or_else(|e| panic!("{}: {e}", out.display()));
 }
 
-/// The decoder: Miralis's own, or for the package that has this feature what stands in for it over the proved library.
+/// The decoder: Miralis's own, or, for the package that has this feature, what replaces it over the proved library.
 fn decoder(top: &Path, folder: &Path) -> PathBuf {
     if env::var_os("CARGO_FEATURE_STAND_IN").is_none() {
         return folder.join(FILES[0]);

@@ -1,4 +1,4 @@
--- funct3 and the width and sign that it stands for, both ways. Assumes nothing.
+-- funct3 and the width and sign that it means, both ways. Assumes nothing.
 use mathlib.Core.Path.{_≡_, refl}
 use mathlib.Core.Bool.{Bool, true, false}
 use mathlib.Core.List.{[], _∷_}

@@ -41,7 +41,7 @@ has w L r = both (matches L w) (spares L (read L w)) r .0
 abbrev wholes : List Layout
 wholes = wfi ∷ mret ∷ sret ∷ sfence-vma ∷ hfence-vvma ∷ hfence-gvma ∷ []
 
--- a word that is none of them is read as a CSR form, or not at all
+-- a word that is not one of them is read as a CSR form, or not at all
 pub past-wholes : (w : ℕ) → (w < 2 ^ 32 → Unread w wholes) → shapeAt w ≡ accessAt w
 unfolding shapeAt accessAt
 past-wholes w h =
@@ -52,7 +52,7 @@ pub record FenceForm (w k : ℕ) : Type 0 where
   pub middle : fld w 7 8 ≡ 0
   pub above : w / 2 ^ 25 ≡ k
 
--- a word below 2^32 that is none of these
+-- a word below 2^32 that is not one of these
 pub record Other (w : ℕ) : Type 0 where
   pub not-wfi : w ≡ 0x10500073 → ⊥
   pub not-mret : w ≡ 0x30200073 → ⊥

@@ -48,7 +48,7 @@ module _ (w : ℕ) (h : w < 2 ^ 64) where
       → (value s ≡ shapeAt w) × FieldsOf w s
   fenced e f q k = (ap value k ∙ sym (at-fence w f (opcode w e) (told-fence w h (funct7 f) q)), subst (FieldsOf w) (sym k) tt)
 
-  -- the word is none of WFI, MRET, SRET and the fences
+  -- the word is not WFI, MRET, SRET or a fence
   pub other : (w ≡ 0x10500073 → ⊥) → (w ≡ 0x30200073 → ⊥) → (w ≡ 0x10200073 → ⊥)
       → (bitAnd w fenceBits ≡ funct7 Vma * 2 ^ 25 → ⊥) → (bitAnd w fenceBits ≡ funct7 Vvma * 2 ^ 25 → ⊥) → (bitAnd w fenceBits ≡ funct7 Gvma * 2 ^ 25 → ⊥)
       → accessAt w ≡ shapeAt w

@@ -1,4 +1,4 @@
-// RISC-V instruction encoder: the way back from the SYSTEM reading of the crate `decoder`. An instruction may hold any numbers; one
+// RISC-V instruction encoder: the way back from the SYSTEM reading of the crate `system_decoder`. An instruction may hold any numbers; one
 // that has no word is refused with document 01's numbers.
 ghost use mathlib.Core.Path.{_≡_};
 ghost use mathlib.Core.Bool.{Bool};

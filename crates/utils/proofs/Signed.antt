@@ -51,7 +51,7 @@ pub twos-lt : (H : ℕ) (z : ℤ) → mag z < H → twos H z < 2 * H
 twos-lt H (pos n) h = omega arith
 twos-lt H (negsuc m) h = omega arith
 
--- which stands for it
+-- the code of a number is read as that number
 pub signed-twos : (H : ℕ) (z : ℤ) → mag z < H → signed H (twos H z) ≡ z
 signed-twos H (pos n) h = signed-low H n h
 signed-twos H (negsuc m) h =
@@ -83,7 +83,7 @@ up-cast : (z : ℤ) → SFits w64 z → ltZ z (pos 0) ≡ false → T (nonNeg z)
 up-cast (pos n) f t = (tt, record { fits = omega (arith, f .sfits) })
 up-cast (negsuc m) f t = absurd (subst T t tt)
 
--- The tests and the operations stand at toZ w64 (ofZ w64 z), which is z where z fits: one module of what a branch on `z < 0` wants.
+-- The tests and the operations are on toZ w64 (ofZ w64 z), which is z where z fits: one module of what a branch on `z < 0` needs.
 module _ (z : ℤ) (f : SFits w64 z) where
   read : toZ w64 (ofZ w64 z) ≡ z
   read = kept f refl

@@ -120,7 +120,7 @@ pub const CLASSES: &[Class] = {
 mod tests {
     use super::*;
 
-    /// The domain and the classes take every word once: all that decides stands in the low 16 bits.
+    /// The domain and the classes take every word once: all that decides is in the low 16 bits.
     #[test]
     fn each_word_once() {
         for reading in [Reading::Load, Reading::Store] {

@@ -1,4 +1,4 @@
-//! The stand-in answers as the original does inside the domain that was ported, and panics outside it. (The whole comparison is the
+//! The replacement answers as the original does inside the domain that was ported, and panics outside it. (The whole comparison is the
 //! package `compare`; this is the part of it that takes seconds.)
 
 #[cfg(not(have_miralis))]

@@ -1,14 +1,14 @@
 //! Miralis's own decoder, to hold the proved one against: the unchanged text of its src/decoder.rs, src/arch/registers.rs and
 //! src/utils.rs, and of `Width` and `ExtensionsCapability` in src/arch/mod.rs (build.rs says where it is taken from).
 //!
-//! What the text asks of the rest of the monitor stands here, as little of it as will do: the host's context is its extension
+//! What the text asks of the rest of the monitor is here, as little of it as will do: the host's context is its extension
 //! flags, the platform's custom CSRs answer from a mask, and nothing is logged.
 //!
-//! The package `monitor` is the same around rust/miralis/decoder.rs, which stands in for src/decoder.rs over the proved library.
+//! The package `monitor` is the same around rust/miralis/decoder.rs, which replaces src/decoder.rs over the proved library.
 //!
 //! Where there is no Miralis text, the library has only [`HAVE_MIRALIS`], which is then false.
 
-/// Whether Miralis's text was at hand when this was built.
+/// Whether Miralis's text was there when this was built.
 pub const HAVE_MIRALIS: bool = cfg!(have_miralis);
 
 // The text's `log::warn!` means the crate `log`. The stand-in is this crate itself, under that name.
@@ -20,7 +20,7 @@ include!(concat!(env!("OUT_DIR"), "/miralis.rs"));
 
 /// Takes a message as the `log` crate does, so that its arguments are checked, and drops it.
 #[cfg(have_miralis)]
-#[allow(unused)] // the stand-in for src/decoder.rs logs nothing
+#[allow(unused)] // the replacement for src/decoder.rs logs nothing
 macro_rules! dropped {
     ($($message:tt)*) => {{
         let _ = format_args!($($message)*);

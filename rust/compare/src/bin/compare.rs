@@ -328,7 +328,7 @@ mod run {
         let mut opcode = |name: &str, reading, opcode, profile| {
             run.part(name, (1 << 25) / CHUNK, |found, chunk| {
                 let pair = Pair::<R>::new(profile);
-                // where it is thinned out, another one of each group is taken, so that no field stands still
+                // where it is thinned out, another one of each group is taken, so that no field stays the same
                 for group in chunk * CHUNK / thin..(chunk + 1) * CHUNK / thin {
                     let upper = group * thin + group.wrapping_mul(0x9E37_79B9_7F4A_7C15) % thin;
                     pair.word(found, reading, upper << 7 | opcode);
@@ -606,7 +606,7 @@ mod run {
                 }
                 let way = match &theirs {
                     Ok(_) => "answers".into(),
-                    // the stand-in says the word, which is another each time
+                    // the replacement says the word, which is another each time
                     Err(panic) => format!("panics: {}", panic.replace(&format!("{raw:#x} "), "")),
                 };
                 ways.entry(way).or_insert((0, raw)).0 += 1;

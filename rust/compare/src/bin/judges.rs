@@ -123,7 +123,7 @@ fn line(line: &str) -> Option<(u64, String)> {
         }
         _ => return None,
     };
-    // what stands behind a remark sign is none of the instruction
+    // what comes after a remark sign is no part of the instruction
     let said = parts.next()?.split('#').next()?;
     let mut said = said.split_whitespace();
     let mnemonic = said.next()?.to_string();

@@ -36,7 +36,7 @@ mod run {
     use compare::sides::{Checked, Original, Side};
     use compare::{Profile, domain, refusal};
 
-    /// The list so far. An input stands in it once.
+    /// The list so far. An input is in it once.
     #[derive(Default)]
     pub struct List {
         entries: Vec<[u8; 32]>,
