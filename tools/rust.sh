@@ -1,5 +1,5 @@
-# Sourced by the tools that run Rust: makes the paths that they are given absolute, goes to the top of the repository, and has the words
-# with which such a tool says that it cannot do what it was asked to.
+# Sourced by the tools that run Rust: makes the paths that they are given absolute, goes to the top of the repository, and has what such a
+# tool says if it cannot do what it was asked to.
 
 # Cargo runs a build script in its package's folder, where a relative path means another folder.
 for name in MIRALIS_SRC MATNOSORU_LIB_DIR; do
