@@ -20,8 +20,8 @@ use Rattle.registers.specs.Address.{idxDef}
 use Rattle.profiles.specs.declared.Profile.{Profile}
 use Rattle.csrs.specs.declared.Gate.{Gate}
 use Rattle.csrs.specs.declared.Gate.the-variants.{Always, Zicntr, Zihpm, Tee, Smode, Hmode, Sstc, Vector, Crypto, MaskBit}
-use Rattle.csrs.specs.declared.Slot.{Slot}
-use Rattle.csrs.specs.declared.Slot.the-variants.{Holds, Empty}
+use Rattle.csrs.specs.declared.Gated.{Gated}
+use Rattle.csrs.specs.declared.Gated.the-variants.{Holds, Empty}
 use Rattle.csrs.specs.declared.CsrLookup.{CsrLookup}
 use Rattle.csrs.specs.declared.CsrLookup.the-variants.{Found, Missing}
 use Rattle.profiles.specs.Profile.{bit}
@@ -123,12 +123,12 @@ gateDef (At a) = gateIn (spotDef a)
 gateDef (Refused n) = MaskBit 64
 
 -- what the look-up answers for an address: every profile finds by it what the definition says
-abbrev pub slotAnswer : Profile → Slot → CsrLookup
-slotAnswer p (Holds g c) = gatedDef (allowsDef p g) c
-slotAnswer p Empty = Missing
+abbrev pub gatedAnswer : Profile → Gated → CsrLookup
+gatedAnswer p (Holds g c) = gatedDef (allowsDef p g) c
+gatedAnswer p Empty = Missing
 
-abbrev pub SlotAt : ℕ → Slot → Type 0
-SlotAt a s = (p : Profile) → p .custom < 2 ^ 64 → slotAnswer p s ≡ decodeCsrDef p a
+abbrev pub GatedAt : ℕ → Gated → Type 0
+GatedAt a s = (p : Profile) → p .custom < 2 ^ 64 → gatedAnswer p s ≡ decodeCsrDef p a
 
 -- the registers that have an address and no row
 abbrev pub nevers : List Csr

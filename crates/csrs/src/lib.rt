@@ -3,7 +3,7 @@ ghost use mathlib.Core.Path.{_≡_};
 ghost use Prim.Native.Nat.{ℕ};
 ghost use Rattle.registers.specs.declared.Idx.the-variants.{At};
 ghost use Rattle.registers.specs.Address.{idxDef};
-ghost use Rattle.csrs.specs.Gates.{allowsDef, gateDef, SlotAt, decodeCsrDef, available};
+ghost use Rattle.csrs.specs.Gates.{allowsDef, gateDef, GatedAt, decodeCsrDef, available};
 ghost use Rattle.csrs.specs.Count.{countDef};
 use profiles::Profile;
 use registers::Csr;
@@ -78,15 +78,15 @@ fn gate_of(register: Csr) -> Gate
 }
 
 // What a CSR address has, whatever the profile: a register, behind its gate.
-enum Slot {
+enum Gated {
     Holds(Gate, Csr),
     Empty,
 }
 
 // The look-up by address, which may be any number. It takes no profile, so that flags are only read where a gate asks; and
 // `gate_of` has no other caller, so that the compiler merges it into the arms.
-fn slot_at(csr: usize) -> Slot
-    ensures { λ r. ⌜ SlotAt csr r ⌝ }
+fn gated_at(csr: usize) -> Gated
+    ensures { λ r. ⌜ GatedAt csr r ⌝ }
 {
     let found = match csr {
         address::MSTATUS => Csr::Mstatus,
@@ -104,7 +104,7 @@ fn slot_at(csr: usize) -> Slot
             if id % 2 == 0 {
                 Csr::Pmpcfg(id)
             } else {
-                return Slot::Empty; // Invalid on rv64
+                return Gated::Empty; // Invalid on rv64
             }
         }
         address::PMPADDR0..=address::PMPADDR63 => Csr::Pmpaddr(csr - address::PMPADDR0),
@@ -129,14 +129,14 @@ fn slot_at(csr: usize) -> Slot
         address::MTVAL2 => Csr::Mtval2,
         address::TSELECT => Csr::Tselect,
         // The Rust reads these eight addresses, and answers None under `if true`.
-        address::TDATA1 => return Slot::Empty,
-        address::TDATA2 => return Slot::Empty,
-        address::TDATA3 => return Slot::Empty,
-        address::MCONTEXT => return Slot::Empty,
-        address::DCSR => return Slot::Empty,
-        address::DPC => return Slot::Empty,
-        address::DSCRATCH0 => return Slot::Empty,
-        address::DSCRATCH1 => return Slot::Empty,
+        address::TDATA1 => return Gated::Empty,
+        address::TDATA2 => return Gated::Empty,
+        address::TDATA3 => return Gated::Empty,
+        address::MCONTEXT => return Gated::Empty,
+        address::DCSR => return Gated::Empty,
+        address::DPC => return Gated::Empty,
+        address::DSCRATCH0 => return Gated::Empty,
+        address::DSCRATCH1 => return Gated::Empty,
         // Custom CSRs: mask bit k makes address 0x7C0 + k available
         address::CUSTOM0..=address::CUSTOM63 => Csr::Custom(csr),
         address::MCAUSE => Csr::Mcause,
@@ -190,9 +190,9 @@ fn slot_at(csr: usize) -> Slot
         address::VLENB => Csr::Vlenb,
         // Crypto extension CSRs
         address::SEED => Csr::Seed,
-        _ => return Slot::Empty,
+        _ => return Gated::Empty,
     };
-    Slot::Holds(gate_of(found), found)
+    Gated::Holds(gate_of(found), found)
 }
 
 // What a CSR address has under a profile.
@@ -205,15 +205,15 @@ pub enum CsrLookup {
 pub fn decode_csr(ctx: Profile, csr: usize) -> CsrLookup
     ensures { λ r. ⌜ r ≡ decodeCsrDef ctx csr ⌝ }
 {
-    match slot_at(csr) {
-        Slot::Holds(gate, found) => {
+    match gated_at(csr) {
+        Gated::Holds(gate, found) => {
             if allows(ctx, gate) {
                 CsrLookup::Found(found)
             } else {
                 CsrLookup::Missing
             }
         }
-        Slot::Empty => CsrLookup::Missing,
+        Gated::Empty => CsrLookup::Missing,
     }
 }
 
@@ -239,8 +239,8 @@ pub fn count(ctx: Profile) -> u32
 pub fn is_available(ctx: Profile, csr: usize) -> bool
     ensures { λ r. ⌜ r ≡ available ctx csr ⌝ }
 {
-    match slot_at(csr) {
-        Slot::Holds(gate, _) => allows(ctx, gate),
-        Slot::Empty => false,
+    match gated_at(csr) {
+        Gated::Holds(gate, _) => allows(ctx, gate),
+        Gated::Empty => false,
     }
 }
