@@ -1,3 +1,4 @@
 pub mod Tables
 mod Eight
 pub mod Current
+pub mod StateBytes

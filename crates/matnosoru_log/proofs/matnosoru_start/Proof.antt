@@ -1,0 +1,21 @@
+-- `matnosoru_log::matnosoru_start` meets its contract: a state is begun, and what is none is refused. Assumes nothing.
+use borrow.Author.Tests.{eq-eqb, ne-eqb}
+use borrow.Author.Needs.{needs}
+use Rattle.matnosoru_log.proofs.matnosoru_start.Statement.{statement}
+use Rattle.matnosoru_log.proofs.matnosoru_start.Tie as tie
+
+returns : tie.Need-returns
+returns c = let other = ne-eqb _ _ (c .before .if1 .taken) in (simp other (c .refusal .ensures), simp other)
+
+returns-2 : tie.Need-returns-2
+returns-2 c = (simp (eq-eqb _ _ (c .before .before .before .before .if1 .left)), c .before .before .start .ensures)
+
+pub matnosoru-start-spec : {M : Type 1} → statement M
+matnosoru-start-spec =
+    tie.close
+    (tie.spec
+    (λ c κs. search needs)
+    returns
+    (λ c κs. search needs)
+    (λ c. search needs)
+    returns-2)
