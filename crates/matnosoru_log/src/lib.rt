@@ -32,8 +32,8 @@ pub extern "C" fn matnosoru_read_record(flags: u64, custom: u64, log: &[u8]) -> 
     }
 }
 
-// Writes the listing's line for the first record of a log, which stands at a place of the whole log: the record's length and
-// 2^16 times the line's, or the record's refusal, 14 last.
+// Writes the listing's line for the first record of a log, whose place in the whole log is told: the record's length and 2^16 times the
+// line's, or the record's refusal, 14 last.
 #[no_mangle]
 pub extern "C" fn matnosoru_line(
     flags: u64,
@@ -45,7 +45,7 @@ pub extern "C" fn matnosoru_line(
     ensures { λ r. ⌜ r ≡ lineDef (profile flags custom) at (parse (profile flags custom) (now (log .entry))) (length (now (out .entry))) ⌝ }
     ensures { λ _. ⌜ now (out .exit) ≡ lineOut (profile flags custom) at (parse (profile flags custom) (now (log .entry))) (now (out .entry)) ⌝ }
 {
-    // what is no state stays as it is
+    // One byte is no state, so nothing is moved.
     let mut none = [0u8; 1];
     log_steps::line_past(abi::profile_of(flags, custom), &mut none, at, log, out)
 }

@@ -1,4 +1,4 @@
--- `matnosoru_log::matnosoru_start` meets its contract: a state is begun, and what is none is refused. Assumes nothing.
+-- `matnosoru_log::matnosoru_start` meets its contract: a state is begun, and what is no state is refused. Assumes nothing.
 use borrow.Author.Tests.{eq-eqb, ne-eqb}
 use borrow.Author.Needs.{needs}
 use Rattle.matnosoru_log.proofs.matnosoru_start.Statement.{statement}
