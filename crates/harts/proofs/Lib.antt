@@ -1,4 +1,3 @@
 pub mod Tables
-mod Eight
 pub mod Current
 pub mod StateBytes
