@@ -26,7 +26,10 @@ use Rattle.system_decoder.specs.declared.Shape.the-variants.{Fence as fence, Ac
 use Rattle.system_decoder.specs.System.{operands, operandsOf, funct3, always, barredDef, meaning}
 use Rattle.registers.specs.Numbers.{areValid}
 use Rattle.profiles.specs.declared.Profile.{Profile}
-use Rattle.csrs.specs.Gates.{available}
+use Rattle.registers.specs.declared.Csr.{Csr}
+use Rattle.csrs.specs.declared.CsrLookup.{CsrLookup}
+use Rattle.csrs.specs.declared.CsrLookup.the-variants.{Found, Missing}
+use Rattle.csrs.specs.Gates.{decodeCsrDef, isFound, available}
 use Rattle.system_encoder.specs.System.{reached, checkedDef}
 
 -- ---- the words
@@ -97,7 +100,7 @@ module _ (a b : ℕ) (la : a ≤ 31) (lb : b ≤ 31) where
   fence-word Vvma = by-line (fence Vvma a b) (fenceTold 4) (fence-known (fence Vvma a b) 4 refl) hfence-vvma refl refl refl refl refl (fence-masks (funct7 Vvma * 2 ^ 25))
   fence-word Gvma = by-line (fence Gvma a b) (fenceTold 5) (fence-known (fence Gvma a b) 5 refl) hfence-gvma refl refl refl refl refl (fence-masks (funct7 Gvma * 2 ^ 25))
 
--- ---- 6, 7 and 8 of an access: v is what `are_valid` gave, t `is_available`, b `is_barred`
+-- ---- 6, 7 and 8 of an access: v is what `are_valid` gave, k `decode_csr`, b `is_barred`
 module _ (p : Profile) (o : CsrOp) (a d x : ℕ) {v : Bool} (e : v ≡ areValid d x) where
   asked : (u t b : Bool) → v ≡ u → t ≡ available p a → b ≡ barredDef a (always o) x → (m : Bool)
       → numberIn (cond u (reached t b (access o m a d x)) (refusal 6)) ≡ numberIn (checkedDef p (access o m a d x))
@@ -106,13 +109,17 @@ module _ (p : Profile) (o : CsrOp) (a d x : ℕ) {v : Bool} (e : v ≡ areValid 
   pub past-31 : not v ≡ true → (m : Bool) → 6 ≡ numberIn (checkedDef p (access o m a d x))
   past-31 q = asked false (available p a) (barredDef a (always o) x) (not-true v q) refl refl
 
-  module _ (low : not v ≡ false) {t : Bool} (f : t ≡ available p a) where
-    pub unavailable : not t ≡ true → (m : Bool) → 7 ≡ numberIn (checkedDef p (access o m a d x))
-    unavailable q = asked true false (barredDef a (always o) x) (not-false v low) (sym (not-true t q) ∙ f) refl
+  module _ (low : not v ≡ false) {k : CsrLookup} (f : k ≡ decodeCsrDef p a) where
+    there : (l : CsrLookup) → k ≡ l → isFound l ≡ available p a
+    unfolding available
+    there l q = ap isFound (sym q ∙ f)
 
-    module _ (there : not t ≡ false) {w : Bool} (g : w ≡ always o) {b : Bool} (h : b ≡ barredDef a w x) where
+    pub unavailable : k ≡ Missing → (m : Bool) → 7 ≡ numberIn (checkedDef p (access o m a d x))
+    unavailable q = asked true false (barredDef a (always o) x) (not-false v low) (there Missing q) refl
+
+    module _ {c : Csr} (found : k ≡ Found c) {w : Bool} (g : w ≡ always o) {b : Bool} (h : b ≡ barredDef a w x) where
       is-barred : b ≡ barredDef a (always o) x
       is-barred = h ∙ ap (λ (y : Bool). barredDef a y x) g
 
-      pub barring : {c : Bool} → b ≡ c → (m : Bool) → numberIn (reached true c (access o m a d x)) ≡ numberIn (checkedDef p (access o m a d x))
-      barring {c} q = asked true true c (not-false v low) (sym (not-false t there) ∙ f) (sym q ∙ is-barred)
+      pub barring : {u : Bool} → b ≡ u → (m : Bool) → numberIn (reached true u (access o m a d x)) ≡ numberIn (checkedDef p (access o m a d x))
+      barring {u} q = asked true true u (not-false v low) (there (Found c) found) (sym q ∙ is-barred)
