@@ -32,7 +32,7 @@ pub struct Profile {
 #[inline]
 fn read<T>(word: u64, from_word: impl FnOnce(u64) -> Option<T>) -> Result<T, Refusal> {
     // The library's contract leaves nothing between the two, so a word that is neither does not come up. It would be Other(0).
-    from_word(word).ok_or(Refusal::from_number(abi::read_refusal(word)))
+    from_word(word).ok_or_else(|| Refusal::from_number(abi::read_refusal(word)))
 }
 
 impl Profile {
