@@ -21,7 +21,7 @@ use Rattle.registers.proofs.Find.{Mem, left, right, mapped, within, all, keeps,
 use Rattle.registers.proofs.Laws.{at-is, every, idx-once}
 use Rattle.csrs.specs.declared.Gate.{Gate}
 use Rattle.csrs.specs.declared.Gate.the-variants.{Always, MaskBit}
-use Rattle.csrs.specs.Gates.{Line, line, lines, Row, under, rowsOf, customRow, rowIdx, spotDef, gateIn, gateDef}
+use Rattle.csrs.specs.Gates.{Group, group, groups, Row, behind, rowsOf, customRow, rowIdx, spotDef, gateIn, gateDef}
 use Rattle.csrs.proofs.Arms.{rows-distinct}
 use Rattle.csrs.proofs.Laws.{there, there-is, no-row}
 
@@ -38,31 +38,31 @@ tagged ks f t c {a} e o = step (hasKey ks (tagOf the-type c)) refl (every (if-am
     step false q u = absurd (miss ks (tagOf the-type c) (rw q tt) o)
 
 -- ---- a line's registers wait for the line's gate
-abbrev gateAt : ℕ → List Line → Gate
+abbrev gateAt : ℕ → List Group → Gate
 gateAt n [] = Always
-gateAt zero (line g cs ∷ ls) = g
+gateAt zero (group g cs ∷ ls) = g
 gateAt (suc n) (l ∷ ls) = gateAt n ls
 
-abbrev familiesAt : ℕ → List Line → List (List Csr)
+abbrev familiesAt : ℕ → List Group → List (List Csr)
 familiesAt n [] = []
-familiesAt zero (line g cs ∷ ls) = cs
+familiesAt zero (group g cs ∷ ls) = cs
 familiesAt (suc n) (l ∷ ls) = familiesAt n ls
 
-lined : (i : ℕ) (ls : List Line) {c : Csr} → Mem c (join (familiesAt i ls)) → Mem (under (gateAt i ls) c) (join (map rowsOf ls))
-lined i [] m = mapped (under Always) m
-lined zero (line g cs ∷ ls) m = left (join (map rowsOf ls)) (mapped (under g) m)
+lined : (i : ℕ) (ls : List Group) {c : Csr} → Mem c (join (familiesAt i ls)) → Mem (behind (gateAt i ls) c) (join (map rowsOf ls))
+lined i [] m = mapped (behind Always) m
+lined zero (group g cs ∷ ls) m = left (join (map rowsOf ls)) (mapped (behind g) m)
 lined (suc i) (l ∷ ls) m = right (rowsOf l) (lined i ls m)
 
-unfoldable pub in-line : ℕ → Csr → Bool
-in-line i c = keeps (λ b. there (find idxDef b (join (familiesAt i lines)))) (idxDef c)
+unfoldable pub in-group : ℕ → Csr → Bool
+in-group i c = keeps (λ b. there (find idxDef b (join (familiesAt i groups)))) (idxDef c)
 
-pub waits : (i : ℕ) (ks : List ℕ) → T (all (if-among ks (in-line i)) registers) → (c : Csr) {a : ℕ} → idxDef c ≡ At a → OneOf ks (tagOf the-type c) → gateAt i lines ≡ gateDef (idxDef c)
-unfolding in-line spotDef
+pub waits : (i : ℕ) (ks : List ℕ) → T (all (if-among ks (in-group i)) registers) → (c : Csr) {a : ℕ} → idxDef c ≡ At a → OneOf ks (tagOf the-type c) → gateAt i groups ≡ gateDef (idxDef c)
+unfolding in-group spotDef
 waits i ks t c {a} e o =
-    let cs = join (familiesAt i lines) in
-    let w = there-is (find idxDef a cs) (kept (λ b. there (find idxDef b cs)) a (idxDef c) e (tagged ks (in-line i) t c e o)) in
+    let cs = join (familiesAt i groups) in
+    let w = there-is (find idxDef a cs) (kept (λ b. there (find idxDef b cs)) a (idxDef c) e (tagged ks (in-group i) t c e o)) in
     let m = subst (λ (d : Csr). Mem d cs) (idx-once (w .0) c a (found-at idxDef a cs (w .0) (w .1)) e) (found-in idxDef a cs (w .0) (w .1)) in
-    sym (ap gateDef e ∙ ap gateIn (hit rowIdx a rows-distinct (left (map customRow (downFrom 64)) (lined i lines m)) e))
+    sym (ap gateDef e ∙ ap gateIn (hit rowIdx a rows-distinct (left (map customRow (downFrom 64)) (lined i groups m)) e))
 
 -- ---- a register without a row waits for a bit that no mask has
 pub shut : (ks : List ℕ) → T (all (if-among ks no-row) registers) → (c : Csr) {a : ℕ} → idxDef c ≡ At a → OneOf ks (tagOf the-type c) → MaskBit 64 ≡ gateDef (idxDef c)
@@ -84,4 +84,4 @@ custom-waits n {a} e =
     let low : 0x7C0 ≤ n = leb-true 0x7C0 n (d .0) in
     let high : n ≤ 0x7FF = leb-true n 0x7FF (d .1) in
     let z : 0x7C0 + (n - 0x7C0) ≡ n = omega arith in
-    sym (ap gateDef e ∙ ap gateIn (hit rowIdx a rows-distinct (right (join (map rowsOf lines)) (rw z at (within customRow 64 (n - 0x7C0) (omega arith)))) e))
+    sym (ap gateDef e ∙ ap gateIn (hit rowIdx a rows-distinct (right (join (map rowsOf groups)) (rw z at (within customRow 64 (n - 0x7C0) (omega arith)))) e))

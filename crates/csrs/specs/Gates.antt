@@ -24,7 +24,7 @@ use Rattle.csrs.specs.declared.Gated.{Gated}
 use Rattle.csrs.specs.declared.Gated.the-variants.{Holds, Empty}
 use Rattle.csrs.specs.declared.CsrLookup.{CsrLookup}
 use Rattle.csrs.specs.declared.CsrLookup.the-variants.{Found, Missing}
-use Rattle.profiles.specs.Profile.{bit}
+use Rattle.profiles.specs.Profile.{bitAt}
 
 abbrev pub allowsDef : Profile → Gate → Bool
 allowsDef p Always = true
@@ -36,55 +36,55 @@ allowsDef p Hmode = p .«has_h_extension»
 allowsDef p Sstc = p .«is_sstc_enabled»
 allowsDef p Vector = p .«has_v_extension»
 allowsDef p Crypto = p .«has_crypto_extension»
-allowsDef p (MaskBit k) = bit (p .custom) k
+allowsDef p (MaskBit k) = bitAt (p .custom) k
 
--- a line of the table: a gate and its registers, family by family
-pub data Line : Type 0 where
-  line : Gate → List (List Csr) → Line
+-- a group of the table: a gate and its registers, family by family
+pub data Group : Type 0 where
+  group : Gate → List (List Csr) → Group
 
-abbrev pub lines : List Line
-lines =
-    line Always
+abbrev pub groups : List Group
+groups =
+    group Always
     ((Mstatus ∷ Misa ∷ Mie ∷ Mtvec ∷ Mscratch ∷ Mip ∷ [])
     ∷ (Mhartid ∷ Mvendorid ∷ Marchid ∷ Mimpid ∷ [])
     ∷ map (λ k. Pmpcfg (2 * k)) (downFrom 8)
     ∷ map Pmpaddr (downFrom 64)
     ∷ (Mcountinhibit ∷ Mcounteren ∷ Menvcfg ∷ Mconfigptr ∷ Tselect ∷ Mcause ∷ Mepc ∷ Mtval ∷ [])
     ∷ [])
-    ∷ line Zicntr ((Mcycle ∷ Minstret ∷ Cycle ∷ Time ∷ Instret ∷ []) ∷ [])
-    ∷ line Zihpm (map Mhpmcounter (downFrom 29) ∷ map Mhpmevent (downFrom 29) ∷ [])
-    ∷ line Tee ((Mseccfg ∷ []) ∷ [])
-    ∷ line Smode
+    ∷ group Zicntr ((Mcycle ∷ Minstret ∷ Cycle ∷ Time ∷ Instret ∷ []) ∷ [])
+    ∷ group Zihpm (map Mhpmcounter (downFrom 29) ∷ map Mhpmevent (downFrom 29) ∷ [])
+    ∷ group Tee ((Mseccfg ∷ []) ∷ [])
+    ∷ group Smode
     ((Medeleg ∷ Mideleg ∷ [])
     ∷ (Sstatus ∷ Sie ∷ Stvec ∷ Scounteren ∷ Senvcfg ∷ Sscratch ∷ Sepc ∷ Scause ∷ Stval ∷ Sip ∷ [])
     ∷ (Satp ∷ Scontext ∷ [])
     ∷ [])
-    ∷ line Sstc ((Stimecmp ∷ []) ∷ [])
-    ∷ line Hmode
+    ∷ group Sstc ((Stimecmp ∷ []) ∷ [])
+    ∷ group Hmode
     ((Mtinst ∷ Mtval2 ∷ [])
     ∷ (Hstatus ∷ Hedeleg ∷ Hideleg ∷ Hvip ∷ Hip ∷ Hie ∷ Hgeip ∷ Hgeie ∷ Henvcfg ∷ Hcounteren ∷ Htimedelta ∷ Htval ∷ Htinst ∷ Hgatp ∷ [])
     ∷ (Vsstatus ∷ Vsie ∷ Vstvec ∷ Vsscratch ∷ Vsepc ∷ Vscause ∷ Vstval ∷ Vsip ∷ Vsatp ∷ [])
     ∷ [])
-    ∷ line Vector ((Vstart ∷ Vxsat ∷ Vxrm ∷ Vcsr ∷ Vl ∷ Vtype ∷ Vlenb ∷ []) ∷ [])
-    ∷ line Crypto ((Seed ∷ []) ∷ [])
+    ∷ group Vector ((Vstart ∷ Vxsat ∷ Vxrm ∷ Vcsr ∷ Vl ∷ Vtype ∷ Vlenb ∷ []) ∷ [])
+    ∷ group Crypto ((Seed ∷ []) ∷ [])
     ∷ []
 
 pub record Row : Type 0 where
   pub gate : Gate
   pub csr : Csr
 
-abbrev pub under : Gate → Csr → Row
-under g c = record { gate = g; csr = c }
+abbrev pub behind : Gate → Csr → Row
+behind g c = record { gate = g; csr = c }
 
-abbrev pub rowsOf : Line → List Row
-rowsOf (line g cs) = map (under g) (join cs)
+abbrev pub rowsOf : Group → List Row
+rowsOf (group g cs) = map (behind g) (join cs)
 
 -- and a row for each bit of the custom mask
 abbrev pub customRow : ℕ → Row
-customRow k = under (MaskBit k) (Custom (0x7C0 + k))
+customRow k = behind (MaskBit k) (Custom (0x7C0 + k))
 
 abbrev pub rows : List Row
-rows = join (map rowsOf lines) ++ map customRow (downFrom 64)
+rows = join (map rowsOf groups) ++ map customRow (downFrom 64)
 
 -- the row of the register that has this address
 abbrev pub rowIdx : Row → Idx

@@ -5,19 +5,19 @@ use lib.Dec.{eqb}
 use Rattle.profiles.specs.declared.Profile.{Profile}
 
 -- bit k of x
-abbrev pub bit : ℕ → ℕ → Bool
-bit x k = eqb (x / 2 ^ k % 2) 1
+abbrev pub bitAt : ℕ → ℕ → Bool
+bitAt x k = eqb (x / 2 ^ k % 2) 1
 
 abbrev pub profileOf : ℕ → ℕ → Profile
 profileOf f m = record {
-  «has_zicntr» = bit f 0;
-  «has_zihpm_extension» = bit f 1;
-  «has_tee_extension» = bit f 2;
-  «has_s_extension» = bit f 3;
-  «has_h_extension» = bit f 4;
-  «is_sstc_enabled» = bit f 5;
-  «has_v_extension» = bit f 6;
-  «has_crypto_extension» = bit f 7;
+  «has_zicntr» = bitAt f 0;
+  «has_zihpm_extension» = bitAt f 1;
+  «has_tee_extension» = bitAt f 2;
+  «has_s_extension» = bitAt f 3;
+  «has_h_extension» = bitAt f 4;
+  «is_sstc_enabled» = bitAt f 5;
+  «has_v_extension» = bitAt f 6;
+  «has_crypto_extension» = bitAt f 7;
   custom = m;
 }
 

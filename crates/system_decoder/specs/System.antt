@@ -83,12 +83,12 @@ shapes env =
     ∷ access Clear true (env csr) (env rd) (env rs1)
     ∷ []
 
-abbrev pub lineOf : Shape → ℕ
-lineOf wfi = 0
-lineOf mret = 1
-lineOf sret = 2
-lineOf (fence f a b) = 3 + fenceCode f
-lineOf (access o m a d x) = 5 + opCode o + 3 * bitOf m
+abbrev pub lineNumber : Shape → ℕ
+lineNumber wfi = 0
+lineNumber mret = 1
+lineNumber sret = 2
+lineNumber (fence f a b) = 3 + fenceCode f
+lineNumber (access o m a d x) = 5 + opCode o + 3 * bitOf m
 
 abbrev pub operands : ℕ → ℕ → ℕ → ℕ → ℕ → Operand → ℕ
 operands n d a b c imm = 0
@@ -100,11 +100,11 @@ operands n d a b c csr = c
 operands n d a b c short = 0
 
 abbrev pub operandsOf : Shape → Operand → ℕ
-operandsOf wfi = operands (lineOf wfi) 0 0 0 0
-operandsOf mret = operands (lineOf mret) 0 0 0 0
-operandsOf sret = operands (lineOf sret) 0 0 0 0
-operandsOf (fence f a b) = operands (lineOf (fence f a b)) 0 a b 0
-operandsOf (access o m a d x) = operands (lineOf (access o m a d x)) d x 0 a
+operandsOf wfi = operands (lineNumber wfi) 0 0 0 0
+operandsOf mret = operands (lineNumber mret) 0 0 0 0
+operandsOf sret = operands (lineNumber sret) 0 0 0 0
+operandsOf (fence f a b) = operands (lineNumber (fence f a b)) 0 a b 0
+operandsOf (access o m a d x) = operands (lineNumber (access o m a d x)) d x 0 a
 
 -- a word that has no line is unknown; a shape that has none has a register above 31
 abbrev pub meaning : Meaning Shape
@@ -162,21 +162,21 @@ legalDef p sret = true
 legalDef p (fence f a b) = true
 legalDef p (access o m a d x) = not (barredDef a (always o) x) && available p a
 
-abbrev pub reg : ℕ → Register
-reg n = record { 0 = n }
+abbrev pub register : ℕ → Register
+register n = record { 0 = n }
 
 abbrev pub instOf : CsrOp → Bool → Csr → ℕ → ℕ → IllegalInst
-instOf Write false c d x = Csrrw c (reg d) (reg x)
-instOf Set false c d x = Csrrs c (reg d) (reg x)
-instOf Clear false c d x = Csrrc c (reg d) (reg x)
-instOf Write true c d x = Csrrwi c (reg d) x
-instOf Set true c d x = Csrrsi c (reg d) x
-instOf Clear true c d x = Csrrci c (reg d) x
+instOf Write false c d x = Csrrw c (register d) (register x)
+instOf Set false c d x = Csrrs c (register d) (register x)
+instOf Clear false c d x = Csrrc c (register d) (register x)
+instOf Write true c d x = Csrrwi c (register d) x
+instOf Set true c d x = Csrrsi c (register d) x
+instOf Clear true c d x = Csrrci c (register d) x
 
 abbrev pub fenceOf : Fence → ℕ → ℕ → IllegalInst
-fenceOf Vma a b = Sfencevma (reg a) (reg b)
-fenceOf Vvma a b = Hfencevvma (reg a) (reg b)
-fenceOf Gvma a b = Hfencegvma (reg a) (reg b)
+fenceOf Vma a b = Sfencevma (register a) (register b)
+fenceOf Vvma a b = Hfencevvma (register a) (register b)
+fenceOf Gvma a b = Hfencegvma (register a) (register b)
 
 abbrev pub foundDef : CsrLookup → CsrOp → Bool → ℕ → ℕ → IllegalRead
 foundDef (Found c) o m d x = Inst (instOf o m c d x)

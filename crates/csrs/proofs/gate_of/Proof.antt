@@ -8,12 +8,12 @@ use Rattle.registers.specs.Address.{idxDef}
 use Rattle.registers.proofs.Find.{all, keeps}
 use Rattle.csrs.specs.Gates.{spotDef, gateDef}
 use Rattle.csrs.proofs.Laws.{no-row}
-use Rattle.csrs.proofs.Waits.{if-among, in-line, waits, shut, custom-low, custom-waits}
+use Rattle.csrs.proofs.Waits.{if-among, in-group, waits, shut, custom-low, custom-waits}
 use Rattle.csrs.proofs.gate_of.Statement.{statement}
 use Rattle.csrs.proofs.gate_of.Tie as tie
 
 pub gate-of-spec : {M : Type 1} → statement M
-unfolding all keeps if-among in-line no-row spotDef
+unfolding all keeps if-among in-group no-row spotDef
 gate-of-spec =
     tie.close
     (tie.spec
