@@ -37,8 +37,8 @@ abbrev pub except : Operand → ℕ → ℕ → Layout
 except x n v = avoid x n 0 v ∷ []
 
 -- the immediate's bits below bit n are 0: it is a multiple of 2 ^ n
-abbrev pub zero-below : ℕ → Layout
-zero-below n = equal imm n 0
+abbrev pub aligned : ℕ → Layout
+aligned n = equal imm n 0
 
 -- the register x is v
 abbrev pub is : Operand → ℕ → Layout

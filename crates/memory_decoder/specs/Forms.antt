@@ -3,16 +3,16 @@
 use Prim.Native.Nat.{ℕ}
 use mathlib.Core.List.{List, [], _∷_, _++_}
 use Rattle.forms.specs.Layout.{Layout, Operand, rd, rs1, rs2, funct}
-use Rattle.forms.specs.Segments.{fix, field, uimm, simm, reg, creg, equal, except, zero-below, long, compressed}
+use Rattle.forms.specs.Segments.{fix, field, uimm, simm, reg, creg, equal, except, aligned, long, compressed}
 
 -- ---- formats of compressed words that loads and stores share: funct3 is f, and x the register that is loaded or stored
 -- C.LW, C.SW: uimm[5:3] | rs1' | uimm[2|6] | x'
 abbrev pub c-word : ℕ → Operand → Layout
-c-word f x = fix 3 f ++ uimm 5 3 ++ creg rs1 ++ uimm 2 2 ++ uimm 6 6 ++ creg x ++ fix 2 0b00 ++ zero-below 2
+c-word f x = fix 3 f ++ uimm 5 3 ++ creg rs1 ++ uimm 2 2 ++ uimm 6 6 ++ creg x ++ fix 2 0b00 ++ aligned 2
 
 -- C.LD, C.SD: uimm[5:3] | rs1' | uimm[7:6] | x'
 abbrev pub c-double : ℕ → Operand → Layout
-c-double f x = fix 3 f ++ uimm 5 3 ++ creg rs1 ++ uimm 7 6 ++ creg x ++ fix 2 0b00 ++ zero-below 3
+c-double f x = fix 3 f ++ uimm 5 3 ++ creg rs1 ++ uimm 7 6 ++ creg x ++ fix 2 0b00 ++ aligned 3
 
 -- ---- loads: the operand funct is funct3 of the 32-bit load, which is the width and the sign
 -- LB, LH, LW, LD, LBU, LHU, LWU; funct3 7 is reserved
