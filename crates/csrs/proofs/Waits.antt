@@ -1,26 +1,19 @@
 -- Which gate a register waits for, by its variant: each arm of `gate_of` has registers of one line of the table, or some that have no row.
 -- Assumes nothing.
-use mathlib.Core.Path.{_≡_, refl, sym, ap, subst, _∙_}
-use mathlib.Core.Bool.{Bool, true, false, not, _&&_, _||_}
-use mathlib.Core.List.{List, [], _∷_, map}
-use Prim.Native.Nat.{ℕ, zero, suc, _+_, _-_, _≤_}
-use native.Mathlib.Omega.{arith}
-use lib.Dec.{T, leb}
-use borrow.Author.Tests.{leb-true}
+use Rattle.utils.proofs.Prelude.{_≡_, refl, sym, ap, _∙_, subst, Bool, true, false, _&&_, _||_, not, List, [], _∷_, map, ℕ, zero, suc, _+_, _-_, _≤_, arith, leb, T}
+use Rattle.utils.proofs.Prelude.{leb-true}
 use denote.Enum.Declared.{tagOf}
 use mir.Val.{hasKey}
 use types.Run.{OneOf, miss}
 use Rattle.utils.proofs.Tests.{both}
-use Rattle.registers.specs.declared.Csr.{Csr}
-use Rattle.registers.specs.declared.Csr.the-variants.{Custom}
+use Rattle.registers.specs.declared.Csr.{Csr, the-variants.Custom}
 use Rattle.registers.specs.declared.Idx.the-variants.{At}
 use Rattle.registers.specs.Find.{Spot, is, nothing, find, downFrom, join}
 use Rattle.registers.specs.Address.{idxDef, registers}
 use Rattle.registers.proofs.Csr.{the-type}
 use Rattle.registers.proofs.Find.{Mem, left, right, mapped, within, all, keeps, kept, found-at, found-in, hit}
 use Rattle.registers.proofs.Laws.{at-is, every, idx-once}
-use Rattle.csrs.specs.declared.Gate.{Gate}
-use Rattle.csrs.specs.declared.Gate.the-variants.{Always, MaskBit}
+use Rattle.csrs.specs.declared.Gate.{Gate, the-variants.Always, the-variants.MaskBit}
 use Rattle.csrs.specs.Gates.{Group, group, groups, Row, behind, rowsOf, customRow, rowIdx, spotDef, gateIn, gateDef}
 use Rattle.csrs.proofs.Arms.{rows-distinct}
 use Rattle.csrs.proofs.Laws.{there, there-is, no-row}

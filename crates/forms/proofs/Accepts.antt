@@ -1,24 +1,19 @@
 -- What a table tells of the words that it accepts, and that two tables accept no word in common. Assumes nothing.
-use mathlib.Core.Path.{_≡_, refl, sym, subst}
-use mathlib.Core.Bool.{Bool, true, _&&_}
-use mathlib.Core.List.{List, [], _∷_, _++_}
-use mathlib.Core.Logic.{_⊎_, inl, inr}
-use Prim.Native.Nat.{ℕ, _^_, _<_}
-use native.Mathlib.Nat.{lt-of-lt-of-le}
-use borrow.Author.Tests.{eqb-true, leb-true}
-use lib.Dec.{eqb, leb, ltb}
-use lib.Pow.{pow-mono}
+use Rattle.utils.proofs.Prelude.{_≡_, refl, sym, subst, _⊎_, inl, inr, Bool, true, _&&_, List, [], _∷_, _++_, ℕ, _^_, _<_, eqb, ltb, leb}
+use Rattle.utils.proofs.Prelude.{lt-of-lt-of-le, pow-mono, eqb-true, leb-true}
 use Rattle.forms.specs.Layout.{Layout, const, take, given, avoid, Operand, imm, rd, rs1, rs2, funct, csr, short, all, every, bits, width, size, matches, spares, read, readable}
-use Rattle.forms.specs.Table.{Answer, value, refusal, first, spread, ofWord, clash, sound}
+use Rattle.forms.specs.Answer.{Answer, value, refusal}
+use Rattle.forms.specs.Sound.{first, spread, ofWord, clash, sound}
 use Rattle.forms.specs.Meaning.{Meaning, Every, readAs, readOf}
 use Rattle.utils.proofs.Tests.{both, on}
 use Rattle.forms.proofs.Laws.{read-lt, every-at}
-use Rattle.forms.proofs.Table.{no-value, first-all, found-good, word-has, word-once}
+use Rattle.forms.proofs.Answer.{no-value}
+use Rattle.forms.proofs.Sound.{first-all, found-good, word-has, word-once}
 use Rattle.forms.proofs.Facts.{Fact, Known, tells, tells-has, field-is, shuts, shut}
 
--- what each line says of what it reads, holds of an instruction that is accepted
-pub by-lines : {I : Type 0} (S : Meaning I) (w : ℕ) (P : I → Type 0) (T : List Layout) → Every (λ L. readable w L ≡ true → P (S .make (read L w))) T → (i : I) → readOf T S w ≡ value i → P i
-by-lines {I} S w P T h i = go T (S .reading-refusal w) h
+-- what each form says of what it reads, holds of an instruction that is accepted
+pub by-layouts : {I : Type 0} (S : Meaning I) (w : ℕ) (P : I → Type 0) (T : List Layout) → Every (λ L. readable w L ≡ true → P (S .make (read L w))) T → (i : I) → readOf T S w ≡ value i → P i
+by-layouts {I} S w P T h i = go T (S .reading-refusal w) h
   where
     go : (T : List Layout) (n : ℕ) → Every (λ L. readable w L ≡ true → P (S .make (read L w))) T → readAs S w (first (readable w) T n) ≡ value i → P i
     go [] n h = λ q. no-value n i q
@@ -26,19 +21,19 @@ by-lines {I} S w P T h i = go T (S .reading-refusal w) h
         on (λ (k : Answer Layout). readAs S w k ≡ value i → P i) (readable w L)
         (λ e q. subst P ((let z : S .make (read L w) ≡ i = cc in z)) (h .0 e)) (λ _. go T n (h .1))
 
--- a computed test of the lines
+-- a computed test of the forms
 pub by-test : (f : Layout → Bool) {P : Layout → Type 0} → ((L : Layout) → f L ≡ true → P L) → (T : List Layout) → all f T ≡ true → Every P T
 by-test f h [] e = tt
 by-test f h (L ∷ T) e = let t = both (all f T) (f L) e in (h L (t .1), by-test f h T (t .0))
 
--- every line of T clashes, in the bits of the word, with every line of U
+-- every form of T clashes, in the bits of the word, with every form of U
 abbrev pub crossed : List Layout → List Layout → Bool
 crossed T U = all (λ L. all (λ M. clash (ofWord M) (ofWord L)) U) T
 
 pub not-both : {I J : Type 0} (T U : List Layout) (R : Meaning I) (S : Meaning J) (w : ℕ) (i : I) (j : J) → crossed T U ≡ true
     → readOf T R w ≡ value i → readOf U S w ≡ value j → ⊥
 not-both T U R S w i j e p q =
-    by-lines R w (λ _. ⊥) T (by-test _ (λ L f r. by-lines S w (λ _. ⊥) U (by-test _ (λ M c. word-once w L M r c) U f) j q) T e) i p
+    by-layouts R w (λ _. ⊥) T (by-test _ (λ L f r. by-layouts S w (λ _. ⊥) U (by-test _ (λ M c. word-once w L M r c) U f) j q) T e) i p
 
 -- the n bits of the word from bit k on are v, as the layout has it
 abbrev pub fixes : ℕ → ℕ → ℕ → Layout → Bool
@@ -64,7 +59,7 @@ fields-of (take x n a ∷ L) w m = fields-of L w m
 fields-of (given x n a v ∷ L) w m = fields-of L w m
 fields-of (avoid x n a v ∷ L) w m = fields-of L w m
 
--- of some line the word has all fields, and its operands are not what they must not be
+-- of some form the word has all fields, and its operands are not what they must not be
 abbrev pub Words : List Layout → ℕ → Type 0
 Words [] w = ⊥
 Words (L ∷ T) w = (Fixed L w × (spares L (read L w) ≡ true)) ⊎ Words T w
@@ -78,7 +73,7 @@ accepted {I} T S w i = go T (S .reading-refusal w)
         on (λ (k : Answer Layout). readAs S w k ≡ value i → Words (L ∷ T) w) (readable w L)
         (λ e _. let t = both (matches L w) (spares L (read L w)) e in inl (fields-of L w (t .0), t .1)) (λ _ q. inr (go T n q))
 
--- lines that do not read a word are passed over
+-- forms that do not read a word are passed over
 abbrev pub Unread : ℕ → List Layout → Type 0
 Unread w T = Every (λ L. readable w L ≡ true → ⊥) T
 

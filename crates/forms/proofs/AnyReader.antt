@@ -1,9 +1,6 @@
 -- Refusals and uniqueness, of any reading of words: they follow where reading then writing, and writing then reading, give back what was. Assumes nothing.
-use mathlib.Core.Path.{_≡_, refl, sym, _∙_}
-use Prim.Native.Nat.{ℕ, _<_}
-use native.Mathlib.Omega.{arith}
-use Rattle.forms.specs.declared.Wrote.{Wrote}
-use Rattle.forms.specs.declared.Wrote.the-variants.{Word, Refused}
+use Rattle.utils.proofs.Prelude.{_≡_, refl, sym, _∙_, ℕ, _<_, arith}
+use Rattle.forms.specs.declared.Wrote.{Wrote, the-variants.Word, the-variants.Refused}
 use Rattle.forms.specs.Demand3.{Refuses, NoWord, OnlyWord, RefusedExactly}
 
 pub no-word : {X : Type 0} (n : ℕ) {w : ℕ} → Refused n ≡ Word w → X

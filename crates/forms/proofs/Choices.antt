@@ -1,21 +1,14 @@
--- What is known of an instruction's operands decides which line of a table writes it: computed tests over any table, as in Facts. Assumes nothing.
-use mathlib.Core.Path.{_≡_, refl, sym, ap, _∙_}
-use mathlib.Core.Bool.{Bool, true, false, _&&_, _||_, not, false≢true}
-use mathlib.Core.List.{List, [], _∷_}
-use Prim.Native.Nat.{ℕ, _^_, _<_}
-use native.Mathlib.Nat.{lt-of-lt-of-le}
-use native.Mathlib.Omega.{arith}
-use borrow.Author.Tests.{eq-eqb, ne-eqb, lt-ltb, leb-true, not-true}
-use lib.Dec.{eqb, leb, ltb}
-use lib.Pow.{pow-mono}
+-- What is known of an instruction's operands decides which form of a table writes it: computed tests over any table, as in Facts. Assumes nothing.
+use Rattle.utils.proofs.Prelude.{_≡_, refl, sym, ap, _∙_, Bool, true, false, _&&_, _||_, not, false≢true, List, [], _∷_, ℕ, _^_, _<_, arith, eqb, ltb, leb}
+use Rattle.utils.proofs.Prelude.{lt-of-lt-of-le, pow-mono, eq-eqb, ne-eqb, lt-ltb, leb-true, not-true}
 use Rattle.utils.proofs.Tests.{both, join, either}
 use Rattle.utils.proofs.Digits.{fld-past}
 use Rattle.forms.specs.Layout.{Layout, Operand, others, all, bits, spares, Piece, piece, from, lit, pieces, size, held, holds, chosen, chain, good}
-use Rattle.forms.specs.Table.{first, any, spread, ofPieces}
+use Rattle.forms.specs.Sound.{first, any, spread, ofPieces}
 use Rattle.forms.specs.Meaning.{Meaning, writeAs, writeOf}
 use Rattle.forms.proofs.Tests.{all-by, not-any}
 use Rattle.forms.proofs.Laws.{linked, chained, holds-true}
-use Rattle.forms.proofs.Table.{bits-fld, Has, spread-has, pieces-have}
+use Rattle.forms.proofs.Sound.{bits-fld, Has, spread-has, pieces-have}
 use Rattle.forms.proofs.Facts.{Fact, is, isnt, under, over, Known, ofFacts, tells, denies, known-has, tells-has, field-is, spread-rest, denies-not, is-told, is-denied, Off, off, offs, spare, spares-is, settled}
 
 -- ---- what is known of an operand
@@ -60,7 +53,7 @@ abbrev hits : Told → ℕ → ℕ → ℕ → Bool
 hits (exactly u) n a v = eqb (bits u a n) v
 hits (such fs) n a v = ltb v (2 ^ n) && tells (ofFacts fs) (spread n a v [])
 
--- ---- a line: it writes the operands; it does not
+-- ---- a form: it writes the operands; it does not
 abbrev missed : (Operand → Told) → Off → Bool
 missed ks (off x n a v) = misses (ks x) n a v
 
@@ -143,7 +136,7 @@ module _ (env : Operand → ℕ) (ks : Operand → Told) (h : (x : Operand) → 
         (λ q. not-any (λ x. unheld (ks x) L x) (λ x. holds L x (env x)) (λ x. holds L x (env x)) others (t .0) (t .0) (λ x p _ u. is-unheld L x (env x) (ks x) (h x) u p) q)
         (λ q. not-any (hit ks) (spare env) (spare env) (offs L) s s (λ o p _ u. not-hit o p u) q)
 
--- ---- the law: what is known of the operands gives the line, or none
+-- ---- the law: what is known of the operands gives the form, or none
 module _ {I : Type 0} (T : List Layout) (S : Meaning I) (ok : all good T ≡ true) where
   pub by-operands : (i : I) (ks : Operand → Told) → ((x : Operand) → KnownAs (S .ops i x) (ks x)) → all (λ L. drops ks L || picks ks L) T ≡ true
       → writeOf T S i ≡ writeAs S i (first (λ L. not (drops ks L)) T (S .writing-refusal i))

@@ -1,16 +1,8 @@
 -- What a code of an immediate tells, and operands of one bit: what a `FaithfulBelow` is made of. Assumes nothing.
-use mathlib.Core.Path.{_≡_, refl, sym, subst}
-use mathlib.Core.Bool.{Bool, true, false}
-use Prim.Native.Nat.{ℕ, _<_}
-use native.Mathlib.Omega.{arith}
-use borrow.Author.Tests.{eqb-true, eqb-false, ltb-true}
-use lib.Dec.{eqb, ltb}
-use lib.IntN.{ℤ}
-use lib.Signed.{mag}
+use Rattle.utils.proofs.Prelude.{_≡_, refl, sym, subst, Bool, true, false, ℕ, _<_, arith, eqb, ltb, ℤ, mag, eqb-true, eqb-false, ltb-true}
 use Rattle.utils.specs.Signed.{signed, twos, codeDef}
 use Rattle.utils.proofs.Signed.{by-test, signed-twos}
-use Rattle.utils.specs.declared.Code.{Code}
-use Rattle.utils.specs.declared.Code.the-variants.{Is, Out}
+use Rattle.utils.specs.declared.Code.{Code, the-variants.Is, the-variants.Out}
 use Rattle.forms.specs.declared.Wrote.the-variants.{Word}
 use Rattle.forms.specs.Layout.{Layout, imm, holds}
 use Rattle.forms.specs.Meaning.{within, put, bitOf}

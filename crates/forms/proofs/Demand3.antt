@@ -1,22 +1,18 @@
 -- The demand on reading and writing, once for any table: what is read is written again, what is written is read again, and writing is refused
 -- exactly where no word would be read so. A table gives one computed test and a `Faithful`, nothing of a form. Assumes nothing.
-use mathlib.Core.Path.{_≡_, refl, sym, ap, _∙_, subst}
-use mathlib.Core.Bool.{Bool, true, _&&_, cond, false≢true}
-use mathlib.Core.List.{List, [], _∷_}
-use Prim.Native.Nat.{ℕ, _^_, _<_}
-use native.Mathlib.Nat.{lt-of-lt-of-le}
-use borrow.Author.Tests.{eqb-true, leb-true, ltb-true}
-use lib.Dec.{eqb, leb, ltb}
-use lib.ListN.{getD}
+use Rattle.utils.proofs.Prelude.{_≡_, refl, sym, ap, _∙_, subst, Bool, true, _&&_, cond, false≢true, List, [], _∷_, ℕ, _^_, _<_, eqb, ltb, leb}
+use Rattle.utils.proofs.Prelude.{lt-of-lt-of-le, getD, eqb-true, ltb-true, leb-true}
 use Rattle.utils.specs.declared.Code.the-variants.{Is, Out}
 use Rattle.forms.specs.declared.Wrote.the-variants.{Word}
 use Rattle.forms.specs.Layout.{Layout, Operand, imm, rd, rs1, rs2, funct, csr, short, code, all, good, every, Piece, piece, from, lit, pieces, place, gather, width, size, read, build, readable, chosen, holds}
-use Rattle.forms.specs.Table.{Answer, value, refusal, first, distinct, sound}
+use Rattle.forms.specs.Answer.{Answer, value, refusal}
+use Rattle.forms.specs.Sound.{first, distinct, sound}
 use Rattle.forms.specs.Meaning.{Meaning, FaithfulBelow, Agrees, Every, Faithful, listed, roomOf, within, put, readAs, readOf, writeAs, writeOf, lits, below, fitted, limited}
 use Rattle.forms.specs.Demand3.{OnlyWord, RefusedExactly}
 use Rattle.utils.proofs.Tests.{both, either, on}
 use Rattle.forms.proofs.Laws.{every-at, read-lt, read-holds, readable-chosen, chosen-back, chosen-readable, build-lt}
-use Rattle.forms.proofs.Table.{no-value, same-value, first-true, found-good, same-line, read-back, write-back}
+use Rattle.forms.proofs.Answer.{no-value}
+use Rattle.forms.proofs.Sound.{same-value, first-true, found-good, same-layout, read-back, write-back}
 use Rattle.forms.proofs.AnyReader.{no-word, refused-by, only-by}
 use Rattle.forms.proofs.Codes.{within-is, put-is}
 
@@ -30,12 +26,12 @@ module _ {I : Type 0} (S : Meaning I) (limit : Operand → ℕ) (s : FaithfulBel
   agrees : (L : Layout) → good L ≡ true → (every (below limit L) && fitted L) ≡ true → (w : ℕ) → Agrees S L w
   agrees L g e w = record { ops = λ j. listed (λ x. s .ops-make (read L w) low x j); code = s .code-make (read L w) low; room = room }
     where
-      line : (every (below limit L) ≡ true) × (fitted L ≡ true)
-      line = both (every (below limit L)) (fitted L) e
+      layout : (every (below limit L) ≡ true) × (fitted L ≡ true)
+      layout = both (every (below limit L)) (fitted L) e
 
       low : (x : Operand) → read L w x < limit x
       low x =
-          either (leb (2 ^ size L x) (limit x)) (lits (pieces L x) && ltb (read L 0 x) (limit x)) (every-at (below limit L) (line .0) x)
+          either (leb (2 ^ size L x) (limit x)) (lits (pieces L x) && ltb (read L 0 x) (limit x)) (every-at (below limit L) (layout .0) x)
           (λ l. lt-of-lt-of-le (read-lt L g w x) (leb-true _ _ l))
           (λ l.
           let t = both (lits (pieces L x)) (ltb (read L 0 x) (limit x)) l in
@@ -43,7 +39,7 @@ module _ {I : Type 0} (S : Meaning I) (limit : Operand → ℕ) (s : FaithfulBel
 
       room : roomOf (S .is-short (S .make (read L w))) ≡ 2 ^ width L
       room =
-          let t = both (lits (pieces L short)) (eqb (2 ^ width L) (roomOf (eqb (read L 0 short) 1))) (line .1) in
+          let t = both (lits (pieces L short)) (eqb (2 ^ width L) (roomOf (eqb (read L 0 short) 1))) (layout .1) in
           ap roomOf (s .short-make (read L w) low ∙ ap (λ (k : ℕ). eqb k 1) (lits-same w (pieces L short) (t .0))) ∙ sym (eqb-true _ _ (t .1))
 
   all-agree : (T : List Layout) → all good T ≡ true → limited limit T ≡ true → Every (λ L. (w : ℕ) → Agrees S L w) T
@@ -54,13 +50,13 @@ module _ {I : Type 0} (S : Meaning I) (limit : Operand → ℕ) (s : FaithfulBel
       (agrees L (a .1) (b .1), all-agree T (a .0) (b .0))
 
   pub by-limits : (T : List Layout) → sound T ≡ true → limited limit T ≡ true → Faithful T S
-  by-limits T ok e = record { lines = all-agree T (both (all good T) (distinct T) ok .0) e; code-ops = s .code-ops; make-ops = s .make-ops }
+  by-limits T ok e = record { layouts = all-agree T (both (all good T) (distinct T) ok .0) e; code-ops = s .code-ops; make-ops = s .make-ops }
 
 -- ---- what a faithful Meaning gives
-every-line : (P : Layout → Type 0) (p : Layout → Bool) (T : List Layout) (n : ℕ) (L : Layout) → Every P T → first p T n ≡ value L → P L
-every-line P p [] n L h = λ e. no-value n L e
-every-line P p (M ∷ T) n L h =
-    on (λ (k : Answer Layout). k ≡ value L → P L) (p M) (λ _ q. subst P (same-value M L q) (h .0)) (λ _ q. every-line P p T n L (h .1) q)
+every-layout : (P : Layout → Type 0) (p : Layout → Bool) (T : List Layout) (n : ℕ) (L : Layout) → Every P T → first p T n ≡ value L → P L
+every-layout P p [] n L h = λ e. no-value n L e
+every-layout P p (M ∷ T) n L h =
+    on (λ (k : Answer Layout). k ≡ value L → P L) (p M) (λ _ q. subst P (same-value M L q) (h .0)) (λ _ q. every-layout P p T n L (h .1) q)
 
 same-at : (f g : Operand → ℕ) → listed f ≡ listed g → (x : Operand) → f x ≡ g x
 same-at f g e =
@@ -69,7 +65,7 @@ same-at f g e =
 
 module _ {I : Type 0} (T : List Layout) (S : Meaning I) (ok : sound T ≡ true) (s : Faithful T S) where
   agrees-of : (p : Layout → Bool) (n : ℕ) (L : Layout) → first p T n ≡ value L → (w : ℕ) → Agrees S L w
-  agrees-of p n L e = every-line (λ M. (w : ℕ) → Agrees S M w) p T n L (s .lines) e
+  agrees-of p n L e = every-layout (λ M. (w : ℕ) → Agrees S M w) p T n L (s .layouts) e
 
   -- what is read of a word is written as the word
   again : (w : ℕ) (L : Layout) → first (readable w) T (S .reading-refusal w) ≡ value L → w < roomOf (S .is-short (S .make (read L w))) → writeOf T S (S .make (read L w)) ≡ Word w
@@ -89,7 +85,7 @@ module _ {I : Type 0} (T : List Layout) (S : Meaning I) (ok : sound T ≡ true) 
       go (value L) e q = let same : S .make (read L w) ≡ i = cc in subst (λ (x : I). w < roomOf (S .is-short x) → writeOf T S x ≡ Word w) same (again w L e)
       go (refusal n) e q = no-value n i q
 
-  -- what is read can be written, whatever bits the word has above its line's: the word without them is read the same
+  -- what is read can be written, whatever bits the word has above its form's: the word without them is read the same
   pub writable : (w : ℕ) (i : I) → readOf T S w ≡ value i → (x : ℕ) × (writeOf T S i ≡ Word x)
   writable w i = go (first (readable w) T (S .reading-refusal w)) refl
     where
@@ -98,7 +94,7 @@ module _ {I : Type 0} (T : List Layout) (S : Meaning I) (ok : sound T ≡ true) 
           let g = found-good T ok (readable w) (S .reading-refusal w) L e in
           let v = build L (read L w) in
           let c = readable-chosen L g w (first-true (readable w) T (S .reading-refusal w) L e) in
-          let f = same-line T ok w v (S .reading-refusal w) (S .reading-refusal v) L e (chosen-readable L g (read L w) c (read-holds L g w imm)) in
+          let f = same-layout T ok w v (S .reading-refusal w) (S .reading-refusal v) L e (chosen-readable L g (read L w) c (read-holds L g w imm)) in
           let made : S .make (read L w) ≡ i = cc in
           let is : S .make (read L v) ≡ i = ap (S .make) (chosen-back L g (read L w) c (read-holds L g w imm)) ∙ made in
           let room : 2 ^ width L ≡ roomOf (S .is-short i) = sym (agrees-of (readable w) (S .reading-refusal w) L e v .room) ∙ ap (λ (j : I). roomOf (S .is-short j)) is in

@@ -1,22 +1,18 @@
--- What is known of a word, field by field, decides which line of a table reads it: computed tests over any table, so that code which has tested some
--- fields needs to name no line. Assumes nothing.
-use mathlib.Core.Path.{_≡_, refl, sym, ap, _∙_}
-use mathlib.Core.Bool.{Bool, true, false, _&&_, _||_, not, cond, false≢true}
-use mathlib.Core.List.{List, [], _∷_}
-use Prim.Native.Nat.{ℕ, zero, suc, _+_, _*_, _/_, _%_, _^_, _≤_, _<_}
-use native.Mathlib.Nat.{mod-eq-of-lt, mod-one}
-use native.Mathlib.Omega.{arith}
-use borrow.Author.Tests.{eq-eqb, ne-eqb, eqb-true, ltb-true}
-use lib.Dec.{eqb, ltb}
+-- What is known of a word, field by field, decides which form of a table reads it: computed tests over any table, so that code which has tested some
+-- fields needs to name no form. Assumes nothing.
+use Rattle.utils.proofs.Prelude.{_≡_, refl, sym, ap, _∙_, Bool, true, false, _&&_, _||_, not, cond, false≢true, List, [], _∷_, ℕ, zero, suc, _+_, _*_, _/_, _%_, _^_, _<_, _≤_, arith, eqb, ltb}
+use Rattle.utils.proofs.Prelude.{mod-eq-of-lt, eq-eqb, ne-eqb, eqb-true, ltb-true}
+use native.Mathlib.Nat.{mod-one}
 use lib.Pow.{mod-pow-add, shr-shr}
 use Rattle.utils.proofs.Tests.{both, join, either, on}
 use Rattle.forms.specs.Layout.{Layout, const, take, given, avoid, Operand, all, bits, width, matches, spares, Piece, piece, from, lit, pieces, gather, read, readable, constants, good}
-use Rattle.forms.specs.Table.{value, first, any, Bit, bit, spread, ofWord, clash}
+use Rattle.forms.specs.Answer.{value}
+use Rattle.forms.specs.Sound.{first, any, Bit, bit, spread, ofWord, clash}
 use Rattle.forms.specs.Meaning.{Meaning, readAs, readOf}
 use Rattle.forms.proofs.Tests.{all-by, not-any}
 use Rattle.forms.proofs.Laws.{bits-lt, constant}
 use Rattle.forms.proofs.Shifts.{masked, masked-is}
-use Rattle.forms.proofs.Table.{bits-fld, Has, spread-has, word-has, clash-not}
+use Rattle.forms.proofs.Sound.{bits-fld, Has, spread-has, word-has, clash-not}
 
 -- ---- what is known of a number
 pub data Fact : Type 0 where
@@ -133,7 +129,7 @@ module _ (w : ℕ) where
     pub is-denied : denies fs (spread n k v []) ≡ true → bits w k n ≡ v → ⊥
     is-denied e q = denies-not fs (spread n k v []) h e (spread-has w n k v [] q tt)
 
--- ---- a line: its constants, and what its operands must not be
+-- ---- a form: its constants, and what its operands must not be
 -- p of the place of the operand in the word, where the operand is one field of n bits
 abbrev whole : ℕ → List Piece → (ℕ → Bool) → Bool
 whole n [] p = false
@@ -142,7 +138,7 @@ whole n (piece m b (from k) ∷ (q ∷ ps)) p = false
 whole n (piece m (suc b) (from k) ∷ []) p = false
 whole n (piece m zero (from k) ∷ []) p = eqb m n && p k
 
--- what an operand must not be, by the line
+-- what an operand must not be, by the form
 pub data Off : Type 0 where
   off : Operand → ℕ → ℕ → ℕ → Off  -- off x n a v: the n bits of x from bit a on are not v
 
@@ -170,7 +166,7 @@ spared fs L (off x n a v) = eqb a 0 && whole n (pieces L x) (λ k. denies fs (sp
 abbrev barred : List Fact → Layout → Off → Bool
 barred fs L (off x n a v) = eqb a 0 && whole n (pieces L x) (λ k. ltb v (2 ^ n) && tells (ofFacts fs) (spread n k v []))
 
--- the line reads the word; it does not
+-- the form reads the word; it does not
 abbrev pub opens : List Fact → Layout → Bool
 opens fs L = tells (ofFacts fs) (ofWord L) && all (spared fs L) (offs L)
 
@@ -229,14 +225,14 @@ module _ (w : ℕ) where
         (λ q. denies-not w fs (ofWord L) h q (word-has w L (t .0)))
         (λ q. not-any (barred fs L) (spare (read L w)) (spare (read L w)) (offs L) s s (λ o p _ b. is-barred o p b) q)
 
--- ---- a table: the facts settle every line of it
+-- ---- a table: the facts settle every form of it
 abbrev pub settles : List Fact → List Layout → Bool
 settles fs T = all (λ L. shuts fs L || opens fs L) T
 
 abbrev pub fits : List Fact → Layout → Bool
 fits fs L = not (shuts fs L)
 
--- s L says that a good line L does not pass p, and o L that it does
+-- s L says that a good form L does not pass p, and o L that it does
 module _ (p s o : Layout → Bool) (no : (L : Layout) → s L ≡ true → p L ≡ true → ⊥) (yes : (L : Layout) → good L ≡ true → o L ≡ true → p L ≡ true) where
   pub settled : (T : List Layout) (n : ℕ) → all good T ≡ true → all (λ L. s L || o L) T ≡ true → first p T n ≡ first (λ L. not (s L)) T n
   settled [] n g e = refl
@@ -252,7 +248,7 @@ module _ (p s o : Layout → Bool) (no : (L : Layout) → s L ≡ true → p L �
       go false a true b e g rest = refl
       go false a false b e g rest = absurd (false≢true (sym b ∙ yes L g e))
 
--- ---- refusals of a word that has no line, by its fields: the first that the word has gives the number
+-- ---- refusals of a word that has no form, by its fields: the first that the word has gives the number
 pub data Reason : Type 0 where
   reason : ℕ → ℕ → ℕ → ℕ → Reason  -- reason k n v m: m, where the n bits from bit k on are v
 

@@ -1,15 +1,10 @@
 -- Any good layout reads and writes without loss, once for all layouts. A word, and an operand of it, are both chains of digits; the layout says
 -- that the two chains have the same digits. Assumes nothing.
-use mathlib.Core.Path.{_≡_, refl, sym, ap, _∙_, subst}
-use mathlib.Core.Bool.{Bool, true, _&&_, cond}
-use mathlib.Core.List.{List, [], _∷_}
-use Prim.Native.Nat.{ℕ, zero, suc, _+_, _*_, _/_, _%_, _^_, _<_}
-use native.Mathlib.Nat.{mod-eq-of-lt, mod-lt, mod-one, div-one}
-use native.Mathlib.Omega.{arith}
-use borrow.Author.Tests.{eq-eqb, lt-ltb, eqb-true, ltb-true}
-use lib.Dec.{eqb, leb, ltb}
+use Rattle.utils.proofs.Prelude.{_≡_, refl, sym, ap, _∙_, subst, Bool, true, _&&_, cond, List, [], _∷_, ℕ, zero, suc, _+_, _*_, _/_, _%_, _^_, _<_, arith, eqb, ltb, leb}
+use Rattle.utils.proofs.Prelude.{mod-eq-of-lt, mod-lt, pow-pos, eq-eqb, eqb-true, lt-ltb, ltb-true}
+use native.Mathlib.Nat.{mod-one, div-one}
 use lib.Arith.{digits-lt}
-use lib.Pow.{pow-pos, pow-add, mod-pow-add}
+use lib.Pow.{pow-add, mod-pow-add}
 use Rattle.utils.proofs.Digits.{same-high, same-low}
 use Rattle.forms.specs.Layout.{Operand, imm, rd, rs1, rs2, funct, csr, short, others, code, all, every}
 use Rattle.forms.specs.Layout.{const, take, given, avoid, Layout, bits, place, width, matches, build, Source, from, lit, Piece, piece, insert, add, pieces, digit, gather, read, size, spares, readable, held, holds, chosen, fits, chain, constants, good}

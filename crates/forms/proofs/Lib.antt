@@ -1,6 +1,7 @@
 pub mod Tests
 pub mod Laws
-pub mod Table
+pub mod Answer
+pub mod Sound
 pub mod Shifts
 pub mod Facts
 pub mod Choices

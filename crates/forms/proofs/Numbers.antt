@@ -1,21 +1,15 @@
 -- Which numbers a table refuses with: a word with the one number that its `Meaning` gives, an instruction with the one that its `Meaning` gives or,
--- where it has a line, with 10. Assumes nothing.
-use mathlib.Core.Path.{_≡_, refl, sym, _∙_, subst}
-use mathlib.Core.Bool.{Bool, true, false≢true}
-use mathlib.Core.Logic.{_⊎_, inl, inr, ⊎-elim}
-use mathlib.Core.List.{List, [], _∷_}
-use Prim.Native.Nat.{ℕ}
-use borrow.Author.Tests.{eqb-true}
-use lib.Dec.{eqb}
-use Rattle.utils.specs.declared.Code.{Code}
-use Rattle.utils.specs.declared.Code.the-variants.{Is, Out}
+-- where it has a form, with 10. Assumes nothing.
+use Rattle.utils.proofs.Prelude.{_≡_, refl, sym, _∙_, subst, _⊎_, inl, inr, ⊎-elim, Bool, true, false≢true, List, [], _∷_, ℕ, eqb, eqb-true}
+use Rattle.utils.specs.declared.Code.{Code, the-variants.Is, the-variants.Out}
 use Rattle.utils.proofs.Tests.{both, either, on}
 use Rattle.forms.specs.declared.Wrote.the-variants.{Refused}
 use Rattle.forms.specs.Layout.{Layout, all, readable, chosen, build}
-use Rattle.forms.specs.Table.{Answer, value, refusal, first, any}
+use Rattle.forms.specs.Answer.{Answer, value, refusal}
+use Rattle.forms.specs.Sound.{first, any}
 use Rattle.forms.specs.Meaning.{Meaning, within, put, readAs, readOf, writeAs, writeOf}
 use Rattle.forms.specs.Numbers.{OneOf}
-use Rattle.forms.proofs.Table.{no-value}
+use Rattle.forms.proofs.Answer.{no-value}
 use Rattle.forms.proofs.AnyReader.{no-word}
 
 pub same-refusal : {F : Type 0} {m n : ℕ} → _≡_ {A = Answer F} (refusal m) (refusal n) → m ≡ n

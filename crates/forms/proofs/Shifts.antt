@@ -1,14 +1,9 @@
 -- Shifts, masks and `|` read and write by a layout, once for all layouts: at a layout, `orRead` and `orBuild` compute to the terms of code that joins
 -- the pieces from the highest down. Assumes nothing.
-use mathlib.Core.Path.{_≡_, refl, sym, ap, _∙_, subst}
-use mathlib.Core.Bool.{true}
-use mathlib.Core.List.{List, [], _∷_}
-use Prim.Native.Nat.{ℕ, zero, suc, _+_, _-_, _*_, _/_, _%_, _^_, _≤_, _<_}
-use native.Mathlib.Omega.{arith}
-use borrow.Author.Tests.{ltb-true, leb-true}
-use lib.Dec.{ltb, leb}
-use lib.Bits.{bitAnd, bitOr, and-mask, or-shifted}
-use lib.Pow.{pow-pos, pow-add, shl-lt}
+use Rattle.utils.proofs.Prelude.{_≡_, refl, sym, ap, _∙_, subst, true, List, [], _∷_, ℕ, zero, suc, _+_, _*_, _-_, _/_, _%_, _^_, _<_, _≤_, arith, ltb, leb}
+use Rattle.utils.proofs.Prelude.{pow-pos, and-mask, bitAnd, ltb-true, leb-true}
+use lib.Bits.{bitOr, or-shifted}
+use lib.Pow.{pow-add, shl-lt}
 use Rattle.utils.proofs.Bits.{mask-field, shl-field}
 use Rattle.forms.specs.Layout.{Operand, const, take, given, avoid, Layout, bits, place, width, build, Source, from, lit, Piece, piece, pieces, digit, gather, read, size, chain, constants, good}
 use Rattle.forms.proofs.Laws.{linked, bits-lt, place-is, digit-lt, gather-lt, constant, chained, built-lt}

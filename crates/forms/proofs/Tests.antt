@@ -1,10 +1,8 @@
 -- What tests of a whole list tell. Assumes nothing.
-use mathlib.Core.Path.{_≡_, refl}
-use mathlib.Core.Bool.{Bool, true, false≢true}
-use mathlib.Core.List.{List, [], _∷_}
+use Rattle.utils.proofs.Prelude.{_≡_, refl, Bool, true, false≢true, List, [], _∷_}
 use Rattle.utils.proofs.Tests.{both, join, either}
 use Rattle.forms.specs.Layout.{all}
-use Rattle.forms.specs.Table.{any}
+use Rattle.forms.specs.Sound.{any}
 
 module _ {A : Type 0} (p : A → Bool) where
   pub all-of : (xs : List A) → ((x : A) → p x ≡ true) → all p xs ≡ true

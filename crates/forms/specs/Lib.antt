@@ -1,6 +1,7 @@
 pub mod Layout
 pub mod Segments
-pub mod Table
+pub mod Answer
+pub mod Sound
 pub mod Meaning
 pub mod Demand3
 pub mod Numbers

@@ -10,7 +10,8 @@ use Rattle.utils.specs.declared.Code.the-variants.{Is, Out}
 use Rattle.forms.specs.declared.Wrote.{Wrote}
 use Rattle.forms.specs.declared.Wrote.the-variants.{Word, Refused}
 use Rattle.forms.specs.Layout.{Layout, Operand, imm, short, others, all, every, Piece, piece, from, lit, pieces, size, width, read, build, readable, chosen, holds}
-use Rattle.forms.specs.Table.{Answer, value, refusal, first}
+use Rattle.forms.specs.Answer.{Answer, value, refusal}
+use Rattle.forms.specs.Sound.{first}
 
 pub record Meaning (I : Type 0) : Type 0 where
   pub make : (Operand → ℕ) → I  -- the instruction of operands
@@ -57,7 +58,7 @@ writeAs S i (refusal n) = Refused n
 abbrev pub writeOf : {I : Type 0} → List Layout → Meaning I → I → Wrote
 writeOf T S i = writeAs S i (first (chosen (S .ops i)) T (S .writing-refusal i))
 
--- ---- what makes a Meaning faithful to a table: the operands of a word of a line, and the instruction that they make, say the same
+-- ---- what makes a Meaning faithful to a table: the operands of a word of a form, and the instruction that they make, say the same
 abbrev pub listed : (Operand → ℕ) → List ℕ
 listed env = map env (imm ∷ others)
 
@@ -71,11 +72,11 @@ Every P [] = Unit {0}
 Every P (L ∷ T) = P L × Every P T
 
 pub record Faithful {I : Type 0} (T : List Layout) (S : Meaning I) : Type 0 where
-  pub lines : Every (λ L. (w : ℕ) → Agrees S L w) T
+  pub layouts : Every (λ L. (w : ℕ) → Agrees S L w) T
   pub code-ops : (i : I) (n : ℕ) → S .code i ≡ Is n → n ≡ S .ops i imm
   pub make-ops : (i : I) (n : ℕ) → S .code i ≡ Is n → S .make (S .ops i) ≡ i
 
--- a Meaning that is faithful whatever the line, so long as each operand is below a limit
+-- a Meaning that is faithful whatever the form, so long as each operand is below a limit
 pub record FaithfulBelow {I : Type 0} (S : Meaning I) (limit : Operand → ℕ) : Type 0 where
   pub ops-make : (env : Operand → ℕ) → ((x : Operand) → env x < limit x) → (x : Operand) → S .ops (S .make env) x ≡ env x
   pub code-make : (env : Operand → ℕ) → ((x : Operand) → env x < limit x) → S .code (S .make env) ≡ Is (env imm)

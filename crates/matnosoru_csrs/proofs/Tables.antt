@@ -1,11 +1,5 @@
 -- The answer for two tables is one alone; and what its functions know of it. Assumes nothing.
-use mathlib.Core.Path.{_≡_, sym, ap, subst, _∙_}
-use mathlib.Core.Bool.{Bool, true, false, _&&_}
-use mathlib.Core.List.{List}
-use Prim.Native.Nat.{ℕ, _*_, _^_}
-use borrow.Author.Tests.{eq-eqb, ne-eqb}
-use lib.Dec.{eqb}
-use lib.ListN.{length}
+use Rattle.utils.proofs.Prelude.{_≡_, sym, ap, _∙_, subst, Bool, true, false, _&&_, List, ℕ, _*_, _^_, eqb, length, eq-eqb, ne-eqb}
 use Rattle.harts.specs.declared.Difference.{Difference}
 use Rattle.harts.specs.declared.Table.{Table}
 use Rattle.harts.specs.Table.{tableOf, FirstDifference}

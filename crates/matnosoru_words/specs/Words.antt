@@ -1,7 +1,7 @@
 -- The record of an instruction that crosses as one number.
 use Prim.Native.Nat.{ℕ, _%_}
 use mathlib.Core.List.{List}
-use Rattle.forms.specs.Table.{Answer, value, refusal}
+use Rattle.forms.specs.Answer.{Answer, value, refusal}
 use Rattle.octets.specs.Bytes.{leBytes}
 use Rattle.log_kinds.specs.Length.{lengthOf}
 

@@ -1,9 +1,7 @@
 -- Which words are accepted as a load or a store, and that none is accepted as both. Assumes nothing.
-use mathlib.Core.Path.{_≡_, refl, ap}
-use Prim.Native.Nat.{ℕ}
-use native.Mathlib.Omega.{arith}
+use Rattle.utils.proofs.Prelude.{_≡_, refl, ap, ℕ, arith}
 use Rattle.profiles.specs.declared.Profile.{Profile}
-use Rattle.forms.specs.Table.{Answer, value, refusal}
+use Rattle.forms.specs.Answer.{Answer, value, refusal}
 use Rattle.forms.specs.Meaning.{readOf}
 use Rattle.forms.proofs.Accepts.{Words, accepted, not-both}
 use Rattle.memory_decoder.specs.Forms.{loads, stores}
@@ -42,7 +40,7 @@ unfolding storeDef
 form-store p w i e = ap Store.answered e
 
 -- ---- the theorems
--- a word that is accepted has, of some line of the table, every constant, and no operand that the line excludes
+-- a word that is accepted has, of some form of the table, every constant, and no operand that the form excludes
 pub loads-accept : (p : Profile) (w : ℕ) (i : LoadInstr) → loadDef p w ≡ ALoad i → Words loads w
 loads-accept p w i e = accepted loads Load.meaning w i (load-form p w i e)
 

@@ -1,9 +1,5 @@
 -- Going by the length of a word. Assumes nothing.
-use mathlib.Core.Path.{_≡_, ap}
-use mathlib.Core.Bool.{Bool, cond}
-use Prim.Native.Nat.{ℕ, _%_, _^_}
-use native.Mathlib.Omega.{arith}
-use borrow.Author.Tests.{eq-eqb, ne-eqb, eqb-true, eqb-false}
+use Rattle.utils.proofs.Prelude.{_≡_, ap, Bool, cond, ℕ, _%_, _^_, arith, eq-eqb, ne-eqb, eqb-true, eqb-false}
 use Rattle.utils.proofs.Tests.{on}
 use Rattle.memory_decoder.specs.Access.{isLong}
 

@@ -1,17 +1,7 @@
 -- What the code's tests say of reading by a table of loads or stores, once for both. Assumes nothing.
-use mathlib.Core.Path.{_≡_, refl, sym, ap, _∙_, subst}
-use mathlib.Core.Bool.{Bool, true, _&&_, cond}
-use mathlib.Core.List.{List, [], _∷_}
-use Prim.Native.Nat.{ℕ, _+_, _/_, _%_, _^_, _<_}
-use native.Mathlib.Nat.{mod-eq-of-lt, lt-of-lt-of-le}
-use native.Mathlib.Omega.{arith}
-use borrow.Author.Tests.{le-leb, leb-true}
-use lib.Bits.{bitAnd}
-use lib.Dec.{leb}
-use lib.IntN.{ℤ, pos}
-use lib.Pow.{pow-mono}
-use mir.Syntax.{w64}
-use mir.Val.{SFits, Fits, toZ}
+use Rattle.utils.proofs.Prelude.{_≡_, refl, sym, ap, _∙_, subst, Bool, true, _&&_, cond, List, [], _∷_, ℕ, _+_, _/_, _%_, _^_, _<_, arith, leb}
+use Rattle.utils.proofs.Prelude.{lt-of-lt-of-le, mod-eq-of-lt, ℤ, pow-mono, bitAnd, w64, SFits, Fits, toZ, le-leb, leb-true}
+use lib.IntN.{pos}
 use mir.ValLaws.{toZ-pos}
 use Rattle.utils.specs.Field.{fld}
 use Rattle.utils.specs.Signed.{signed}
@@ -21,7 +11,8 @@ use Rattle.utils.proofs.Signed.{signed-low}
 use Rattle.utils.specs.declared.Width.{Width}
 use Rattle.registers.specs.declared.Register.{Register}
 use Rattle.forms.specs.Layout.{Layout, imm, all, pieces, size, read, good}
-use Rattle.forms.specs.Table.{Answer, value, refusal, first}
+use Rattle.forms.specs.Answer.{Answer, value, refusal}
+use Rattle.forms.specs.Sound.{first}
 use Rattle.forms.specs.Meaning.{Meaning, readAs, readOf}
 use Rattle.forms.proofs.Laws.{read-lt}
 use Rattle.forms.proofs.Shifts.{orRead, gathered}

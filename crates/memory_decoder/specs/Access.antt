@@ -8,10 +8,10 @@ use Rattle.registers.specs.Numbers.{areValid}
 abbrev pub isLong : ℕ → Bool
 isLong w = eqb (w % 2 ^ 2) 0b11
 
--- a word that is no line: 5 where its low two bits are 10, 4 where it has the opcode, else 3
+-- a word of no form: 5 where its low two bits are 10, 4 where it has the opcode, else 3
 abbrev pub unread : ℕ → ℕ → ℕ
 unread opcode w = cond (eqb (w % 2 ^ 2) 0b10) 5 (cond (eqb (w % 2 ^ 7) opcode) 4 3)
 
--- an instruction that is no line, by its two registers: 6 where one is above 31, else 9
+-- an instruction of no form, by its two registers: 6 where one is above 31, else 9
 abbrev pub unwritten : ℕ → ℕ → ℕ
 unwritten x b = cond (areValid x b) 9 6

@@ -7,7 +7,7 @@ use Rattle.utils.specs.Signed.{signed, twos, codeDef}
 use Rattle.utils.specs.declared.Width.{Width}
 use Rattle.profiles.specs.declared.Profile.{Profile}
 use Rattle.forms.specs.Layout.{Operand, imm, rd, rs1, rs2, funct, csr, short}
-use Rattle.forms.specs.Table.{Answer, value, refusal}
+use Rattle.forms.specs.Answer.{Answer, value, refusal}
 use Rattle.forms.specs.Meaning.{Meaning, readOf, bitOf}
 use Rattle.memory_decoder.specs.Access.{isLong, unread, unwritten}
 use Rattle.memory_decoder.specs.Forms.{loads}
@@ -24,7 +24,7 @@ numberOf (Refused n) = n
 abbrev pub mk : ℕ → ℕ → ℤ → Width → Bool → Bool → LoadInstr
 mk d b n len c u = record { rd = record { 0 = d }; rs1 = record { 0 = b }; imm = n; len = len; «is_compressed» = c; «is_unsigned» = u }
 
--- the load of a line's operands: the immediate is signed, in twelve bits
+-- the load of a form's operands: the immediate is signed, in twelve bits
 abbrev pub made : (Operand → ℕ) → LoadInstr
 made env = mk (env rd) (env rs1) (signed 2048 (env imm)) (widthOf (env funct)) (eqb (env short) 1) (leb 4 (env funct))
 

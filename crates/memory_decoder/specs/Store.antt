@@ -7,7 +7,7 @@ use Rattle.utils.specs.Signed.{signed, twos, codeDef}
 use Rattle.utils.specs.declared.Width.{Width}
 use Rattle.profiles.specs.declared.Profile.{Profile}
 use Rattle.forms.specs.Layout.{Operand, imm, rd, rs1, rs2, funct, csr, short}
-use Rattle.forms.specs.Table.{Answer, value, refusal}
+use Rattle.forms.specs.Answer.{Answer, value, refusal}
 use Rattle.forms.specs.Meaning.{Meaning, readOf, bitOf}
 use Rattle.memory_decoder.specs.Access.{isLong, unread, unwritten}
 use Rattle.memory_decoder.specs.Forms.{stores}
@@ -24,7 +24,7 @@ numberOf (Refused n) = n
 abbrev pub mk : ℕ → ℕ → ℤ → Width → Bool → StoreInstr
 mk s b n len c = record { rs2 = record { 0 = s }; rs1 = record { 0 = b }; imm = n; len = len; «is_compressed» = c }
 
--- the store of a line's operands: the immediate is signed, in twelve bits
+-- the store of a form's operands: the immediate is signed, in twelve bits
 abbrev pub made : (Operand → ℕ) → StoreInstr
 made env = mk (env rs2) (env rs1) (signed 2048 (env imm)) (widthOf (env funct)) (eqb (env short) 1)
 

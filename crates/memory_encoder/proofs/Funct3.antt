@@ -1,16 +1,7 @@
 -- funct3 and the width and sign that it means, both ways. Assumes nothing.
-use mathlib.Core.Path.{_≡_, refl}
-use mathlib.Core.Bool.{Bool, true, false}
-use mathlib.Core.List.{[], _∷_}
-use Prim.Native.Nat.{ℕ, zero, suc, _%_, _^_, _<_}
-use native.Mathlib.Nat.{mod-lt}
-use native.Mathlib.Omega.{arith}
-use borrow.Author.Tests.{leb-true, leb-false}
-use lib.Dec.{leb}
-use lib.ListN.{getD}
-use lib.Pow.{pow-pos}
-use Rattle.utils.specs.declared.Width.{Width}
-use Rattle.utils.specs.declared.Width.the-variants.{Byte, Byte2, Byte4, Byte8}
+use Rattle.utils.proofs.Prelude.{_≡_, refl, Bool, true, false, [], _∷_, ℕ, zero, suc, _%_, _^_, _<_, mod-lt, arith, leb, getD, pow-pos, leb-true}
+use borrow.Author.Tests.{leb-false}
+use Rattle.utils.specs.declared.Width.{Width, the-variants.Byte, the-variants.Byte2, the-variants.Byte4, the-variants.Byte8}
 use Rattle.utils.proofs.Signed.{by-test}
 use Rattle.memory_decoder.specs.Funct3.{widthOf, sizeOf, funct3Of}
 

@@ -1,17 +1,11 @@
 -- Laws of looking for an address, each over any list of things that have addresses; what is particular to a list is a test that antt computes.
 -- Assumes nothing.
-use mathlib.Core.Path.{_≡_, refl, sym, ap, subst, _∙_}
-use mathlib.Core.Logic.{⊎-elim}
-use mathlib.Core.Bool.{Bool, true, false, not, _&&_}
-use mathlib.Core.List.{List, [], _∷_, _++_, map}
-use Prim.Native.Nat.{ℕ, zero, suc, _<_}
-use native.Mathlib.Nat.{eq-or-lt-of-le, le-of-suc-le-suc, not-suc-le-zero}
-use native.Mathlib.Omega.{arith}
-use lib.Dec.{T, T-not, eqb, eqb-refl}
-use borrow.Author.Tests.{eqb-true, eq-eqb, ne-eqb}
+use Rattle.utils.proofs.Prelude.{_≡_, refl, sym, ap, _∙_, subst, ⊎-elim, Bool, true, false, _&&_, not, List, [], _∷_, _++_, map, ℕ, zero, suc, _<_, arith, eqb, T}
+use Rattle.utils.proofs.Prelude.{le-of-suc-le-suc, not-suc-le-zero, eq-eqb, ne-eqb, eqb-true}
+use native.Mathlib.Nat.{eq-or-lt-of-le}
+use lib.Dec.{T-not, eqb-refl}
 use Rattle.utils.proofs.Arms.{both}
-use Rattle.registers.specs.declared.Idx.{Idx}
-use Rattle.registers.specs.declared.Idx.the-variants.{At, Refused}
+use Rattle.registers.specs.declared.Idx.{Idx, the-variants.At, the-variants.Refused}
 use Rattle.registers.specs.Find.{Spot, is, nothing, here, find, downFrom, join}
 
 -- ---- tests

@@ -1,9 +1,6 @@
 -- What a test of two numbers of registers tells. Assumes nothing.
-use mathlib.Core.Path.{_≡_, refl}
-use mathlib.Core.Bool.{Bool, true, false, _&&_}
-use Prim.Native.Nat.{ℕ, _≤_, _<_}
-use lib.Dec.{leb}
-use borrow.Author.Tests.{leb-true, leb-false, le-leb}
+use Rattle.utils.proofs.Prelude.{_≡_, refl, Bool, true, false, _&&_, ℕ, _<_, _≤_, leb, le-leb, leb-true}
+use borrow.Author.Tests.{leb-false}
 use Rattle.utils.proofs.Tests.{both}
 use Rattle.registers.specs.Numbers.{areValid}
 

@@ -1,5 +1,5 @@
 pub mod SystemMasks
-pub mod SystemLines
+pub mod SystemForms
 pub mod SystemSteps
 pub mod Legal
 pub mod Sentence

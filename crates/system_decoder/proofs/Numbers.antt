@@ -1,21 +1,14 @@
 -- Which numbers the SYSTEM reading refuses with: 1 where the word has no shape, 2 where the profile makes no instruction of its shape. Assumes nothing.
-use mathlib.Core.Path.{_≡_, refl, sym, ap, _∙_}
-use mathlib.Core.Bool.{Bool, cond}
-use mathlib.Core.List.{[], _∷_}
-use mathlib.Core.Logic.{_↔_, inl, inr}
-use Prim.Native.Nat.{ℕ, _^_}
-use native.Mathlib.Omega.{arith}
-use lib.Dec.{ltb}
+use Rattle.utils.proofs.Prelude.{_≡_, refl, sym, ap, _∙_, inl, inr, _↔_, Bool, cond, [], _∷_, ℕ, _^_, arith, ltb}
 use Rattle.profiles.specs.declared.Profile.{Profile}
-use Rattle.forms.specs.Table.{Answer, value, refusal}
+use Rattle.forms.specs.Answer.{Answer, value, refusal}
 use Rattle.forms.specs.Numbers.{OneOf}
 use Rattle.utils.proofs.Tests.{on}
 use Rattle.utils.proofs.Signed.{by-test}
 use Rattle.forms.proofs.Numbers.{reading-number}
 use Rattle.system_decoder.specs.Forms.{system, accesses}
 use Rattle.system_decoder.specs.declared.IllegalInst.{IllegalInst}
-use Rattle.system_decoder.specs.declared.IllegalRead.{IllegalRead}
-use Rattle.system_decoder.specs.declared.IllegalRead.the-variants.{Inst, Unknown, InvalidCsrOp}
+use Rattle.system_decoder.specs.declared.IllegalRead.{IllegalRead, the-variants.Inst, the-variants.Unknown, the-variants.InvalidCsrOp}
 use Rattle.system_decoder.specs.declared.Shape.{Shape}
 use Rattle.system_decoder.specs.System.{numberOf, meaning, accessAt, shapeAt, legalDef, readShape, illegalDef}
 use Rattle.system_decoder.proofs.Legal.{legal, illegal}

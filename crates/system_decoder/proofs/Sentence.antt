@@ -1,25 +1,18 @@
 -- Demand 3's last sentence: on which grounds a word in CSR form is refused as InvalidCsrOp. Assumes nothing.
-use mathlib.Core.Path.{_≡_, refl, sym, ap, _∙_}
-use mathlib.Core.Bool.{Bool, true, false, not, _||_, cond, false≢true}
-use mathlib.Core.Logic.{_⊎_, _↔_, inl, inr, ⊎-elim}
-use Prim.Native.Nat.{ℕ, _%_}
-use native.Mathlib.Omega.{arith}
-use borrow.Author.Tests.{eqb-true, eqb-false, eq-eqb, ne-eqb, not-true}
-use lib.Dec.{eqb}
+use Rattle.utils.proofs.Prelude.{_≡_, refl, sym, ap, _∙_, _⊎_, inl, inr, ⊎-elim, _↔_, Bool, true, false, _||_, not, cond, false≢true, ℕ, _%_, arith, eqb}
+use Rattle.utils.proofs.Prelude.{eq-eqb, ne-eqb, eqb-true, eqb-false, not-true}
 use Rattle.utils.specs.Field.{fld}
 use Rattle.utils.proofs.Digits.{fld-lt}
-use Rattle.csrs.specs.declared.CsrLookup.{CsrLookup}
-use Rattle.csrs.specs.declared.CsrLookup.the-variants.{Found, Missing}
+use Rattle.csrs.specs.declared.CsrLookup.{CsrLookup, the-variants.Found, the-variants.Missing}
 use Rattle.profiles.specs.declared.Profile.{Profile}
 use Rattle.csrs.specs.Gates.{decodeCsrDef, isFound, available}
 use Rattle.utils.proofs.Tests.{both, join}
-use Rattle.system_decoder.specs.declared.CsrOp.{CsrOp}
-use Rattle.system_decoder.specs.declared.CsrOp.the-variants.{Write, Set, Clear}
+use Rattle.system_decoder.specs.declared.CsrOp.{CsrOp, the-variants.Write, the-variants.Set, the-variants.Clear}
 use Rattle.system_decoder.specs.declared.IllegalRead.the-variants.{InvalidCsrOp}
 use Rattle.system_decoder.specs.declared.Shape.the-variants.{Access as access}
 use Rattle.system_decoder.specs.System.{opCode, funct3, readOnly, always, barredDef, foundDef, instAt, readShape, illegalDef, numberOf}
 use Rattle.system_decoder.specs.Grounds.{CsrForm, address, Writes, ReadOnly, Grounds, Invalid}
-use Rattle.system_decoder.proofs.SystemLines.{past-wholes, unfit-csr, at-access, one-of-six, op-of, low-two}
+use Rattle.system_decoder.proofs.SystemForms.{past-wholes, unfit-csr, at-access, one-of-six, op-of, low-two}
 
 -- ---- the sentence
 -- k is bits 13:12, x the rs1 field

@@ -1,12 +1,8 @@
 -- The masks of the SYSTEM reading's code as fields of the word. Assumes nothing.
-use mathlib.Core.Path.{_≡_, refl, sym, ap, _∙_}
-use mathlib.Core.Bool.{Bool, true, false}
-use Prim.Native.Nat.{ℕ, _+_, _*_, _/_, _%_, _^_, _<_}
-use native.Mathlib.Nat.{mod-eq-of-lt, div-add-mod'}
-use native.Mathlib.Omega.{arith}
-use borrow.Author.Tests.{eq-eqb, ne-eqb, eqb-true, eqb-false}
-use lib.Bits.{bitAnd, and-mask, and-high, and-shr, and-mod}
-use lib.Dec.{eqb}
+use Rattle.utils.proofs.Prelude.{_≡_, refl, sym, ap, _∙_, Bool, true, false, ℕ, _+_, _*_, _/_, _%_, _^_, _<_, arith, eqb}
+use Rattle.utils.proofs.Prelude.{mod-eq-of-lt, and-mask, bitAnd, eq-eqb, ne-eqb, eqb-true, eqb-false}
+use native.Mathlib.Nat.{div-add-mod'}
+use lib.Bits.{and-high, and-shr, and-mod}
 use Rattle.utils.specs.Field.{fld}
 use Rattle.system_decoder.specs.System.{readOnly}
 

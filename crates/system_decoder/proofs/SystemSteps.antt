@@ -1,26 +1,19 @@
 -- What each exit of `shape_at` and of `access_at` knows is what the reading asks there. Assumes nothing.
-use mathlib.Core.Path.{_≡_, refl, sym, ap, _∙_, subst}
-use Prim.Native.Nat.{ℕ, _+_, _*_, _/_, _%_, _^_, _≤_, _<_}
-use native.Mathlib.Nat.{add-zero}
-use native.Mathlib.Omega.{arith}
-use lib.Bits.{bitAnd, and-mask}
-use lib.Dec.{eqb}
+use Rattle.utils.proofs.Prelude.{_≡_, refl, sym, ap, _∙_, subst, ℕ, _+_, _*_, _/_, _%_, _^_, _<_, _≤_, add-zero, arith, eqb, and-mask, bitAnd}
 use Rattle.utils.specs.Field.{fld}
 use Rattle.utils.proofs.Bits.{mask-field}
 use Rattle.utils.proofs.Digits.{fld-lt, same-high}
 use Rattle.forms.specs.Meaning.{bitOf}
-use Rattle.forms.specs.Table.{value, refusal}
+use Rattle.forms.specs.Answer.{value, refusal}
 use Rattle.forms.proofs.Codes.{bit-one}
 use Rattle.system_decoder.specs.declared.CsrOp.{CsrOp}
-use Rattle.system_decoder.specs.declared.Fence.{Fence}
-use Rattle.system_decoder.specs.declared.Fence.the-variants.{Vma, Vvma, Gvma}
+use Rattle.system_decoder.specs.declared.Fence.{Fence, the-variants.Vma, the-variants.Vvma, the-variants.Gvma}
 use Rattle.system_decoder.specs.declared.IllegalRead.the-variants.{Unknown}
 use Rattle.system_decoder.specs.Forms.{funct7}
-use Rattle.system_decoder.specs.declared.Shape.{Shape}
-use Rattle.system_decoder.specs.declared.Shape.the-variants.{Fence as fence, Access as access}
+use Rattle.system_decoder.specs.declared.Shape.{Shape, the-variants.Fence as fence, the-variants.Access as access}
 use Rattle.system_decoder.specs.System.{numberOf, opCode, FieldsOf, accessAt, shapeAt}
 use Rattle.system_decoder.proofs.SystemMasks.{fenceBits, fence-mask}
-use Rattle.system_decoder.proofs.SystemLines.{FenceForm, past-wholes, unfit-other, at-fence, at-access, at-foreign, at-no-op, low-two}
+use Rattle.system_decoder.proofs.SystemForms.{FenceForm, past-wholes, unfit-other, at-fence, at-access, at-foreign, at-no-op, low-two}
 
 -- ---- shape_at
 pub opcode : (w : ℕ) → bitAnd w 0x7F ≡ 0x73 → w % 2 ^ 7 ≡ 0x73

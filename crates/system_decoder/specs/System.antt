@@ -15,7 +15,7 @@ use Rattle.csrs.specs.declared.CsrLookup.the-variants.{Found, Missing}
 use Rattle.profiles.specs.declared.Profile.{Profile}
 use Rattle.csrs.specs.Gates.{decodeCsrDef, available}
 use Rattle.forms.specs.Layout.{Operand, imm, rd, rs1, rs2, funct, csr, short}
-use Rattle.forms.specs.Table.{Answer, value, refusal}
+use Rattle.forms.specs.Answer.{Answer, value, refusal}
 use Rattle.forms.specs.Meaning.{Meaning, readOf, bitOf}
 use Rattle.system_decoder.specs.Forms.{system, accesses}
 use Rattle.system_decoder.specs.declared.CsrOp.{CsrOp}
@@ -53,7 +53,7 @@ opCode Clear = 3
 abbrev pub byOp : {X : Type 0} → (CsrOp → X) → X → ℕ → X
 byOp f x o = cond (eqb o (opCode Write)) (f Write) (cond (eqb o (opCode Set)) (f Set) (cond (eqb o (opCode Clear)) (f Clear) x))
 
--- bits 14:12 of a CSR form, as the six lines of the table have them; the third chooses immediate
+-- bits 14:12 of a CSR form, as the six forms of the table have them; the third chooses immediate
 abbrev pub funct3 : CsrOp → Bool → ℕ
 funct3 o m = opCode o + 4 * bitOf m
 
@@ -66,7 +66,7 @@ fenceCode Gvma = 2
 abbrev pub byFence : {X : Type 0} → (Fence → X) → X → ℕ → X
 byFence f x c = cond (eqb c (fenceCode Vma)) (f Vma) (cond (eqb c (fenceCode Vvma)) (f Vvma) (cond (eqb c (fenceCode Gvma)) (f Gvma) x))
 
--- the shapes of a table's operands, in the order of its lines
+-- the shapes of a table's operands, in the order of its forms
 abbrev pub shapes : (Operand → ℕ) → List Shape
 shapes env =
     wfi
@@ -83,12 +83,12 @@ shapes env =
     ∷ access Clear true (env csr) (env rd) (env rs1)
     ∷ []
 
-abbrev pub lineNumber : Shape → ℕ
-lineNumber wfi = 0
-lineNumber mret = 1
-lineNumber sret = 2
-lineNumber (fence f a b) = 3 + fenceCode f
-lineNumber (access o m a d x) = 5 + opCode o + 3 * bitOf m
+abbrev pub formNumber : Shape → ℕ
+formNumber wfi = 0
+formNumber mret = 1
+formNumber sret = 2
+formNumber (fence f a b) = 3 + fenceCode f
+formNumber (access o m a d x) = 5 + opCode o + 3 * bitOf m
 
 abbrev pub operands : ℕ → ℕ → ℕ → ℕ → ℕ → Operand → ℕ
 operands n d a b c imm = 0
@@ -100,13 +100,13 @@ operands n d a b c csr = c
 operands n d a b c short = 0
 
 abbrev pub operandsOf : Shape → Operand → ℕ
-operandsOf wfi = operands (lineNumber wfi) 0 0 0 0
-operandsOf mret = operands (lineNumber mret) 0 0 0 0
-operandsOf sret = operands (lineNumber sret) 0 0 0 0
-operandsOf (fence f a b) = operands (lineNumber (fence f a b)) 0 a b 0
-operandsOf (access o m a d x) = operands (lineNumber (access o m a d x)) d x 0 a
+operandsOf wfi = operands (formNumber wfi) 0 0 0 0
+operandsOf mret = operands (formNumber mret) 0 0 0 0
+operandsOf sret = operands (formNumber sret) 0 0 0 0
+operandsOf (fence f a b) = operands (formNumber (fence f a b)) 0 a b 0
+operandsOf (access o m a d x) = operands (formNumber (access o m a d x)) d x 0 a
 
--- a word that has no line is unknown; a shape that has none has a register above 31
+-- a word that has no form is unknown; a shape that has none has a register above 31
 abbrev pub meaning : Meaning Shape
 meaning = record { make = λ env. getD (shapes env) (env funct) wfi; ops = operandsOf; code = λ s. IsCode 0; is-short = λ s. false; reading-refusal = λ w. numberOf Unknown; writing-refusal = λ s. 6 }
 

@@ -1,17 +1,12 @@
 -- Which numbers the SYSTEM writing refuses with: the checks' own, and no other, since whatever passes the checks has a word. Assumes nothing.
-use mathlib.Core.Path.{_≡_, refl, sym, ap, _∙_}
-use mathlib.Core.Bool.{Bool, true, false, _&&_}
-use mathlib.Core.List.{[], _∷_}
-use mathlib.Core.Logic.{_↔_, inl, inr}
-use Prim.Native.Nat.{ℕ}
-use lib.Dec.{leb}
+use Rattle.utils.proofs.Prelude.{_≡_, refl, sym, ap, _∙_, inl, inr, _↔_, Bool, true, false, _&&_, [], _∷_, ℕ, leb}
 use Rattle.profiles.specs.declared.Profile.{Profile}
 use Rattle.csrs.specs.Gates.{available}
 use Rattle.forms.specs.declared.Wrote.the-variants.{Refused}
-use Rattle.forms.specs.Table.{Answer, value, refusal}
+use Rattle.forms.specs.Answer.{Answer, value, refusal}
 use Rattle.forms.specs.Numbers.{OneOf, RefusesBy}
 use Rattle.utils.proofs.Tests.{on}
-use Rattle.forms.proofs.Table.{no-value}
+use Rattle.forms.proofs.Answer.{no-value}
 use Rattle.forms.proofs.AnyReader.{no-word}
 use Rattle.forms.proofs.Numbers.{same-refusal, same-refused}
 use Rattle.system_decoder.specs.declared.IllegalInst.{IllegalInst}

@@ -1,39 +1,29 @@
 -- The demand on reading and writing (forms' `Demand3`), for the SYSTEM reading: over `illegalDef` and `encodeIllegalDef`, any profile, and any
 -- instruction value, nonsense included. The table gives it for shapes; what a profile makes of a shape goes both ways. Assumes nothing.
-use mathlib.Core.Path.{_≡_, refl, sym, ap, _∙_, subst}
-use mathlib.Core.Bool.{Bool, true, false, cond}
-use mathlib.Core.List.{List, [], _∷_}
-use Prim.Native.Nat.{ℕ, zero, suc, _^_, _≤_, _<_}
-use native.Mathlib.Omega.{arith}
-use borrow.Author.Tests.{lt-ltb}
-use lib.Dec.{ltb}
-use lib.ListN.{getD}
+use Rattle.utils.proofs.Prelude.{_≡_, refl, sym, ap, _∙_, subst, Bool, true, false, cond, List, [], _∷_, ℕ, zero, suc, _^_, _<_, _≤_, arith, ltb, getD, lt-ltb}
 use Rattle.utils.specs.declared.Code.the-variants.{Is}
 use Rattle.registers.specs.declared.Csr.{Csr}
-use Rattle.registers.specs.declared.Idx.{Idx}
-use Rattle.registers.specs.declared.Idx.the-variants.{At, Refused as Nowhere}
+use Rattle.registers.specs.declared.Idx.{Idx, the-variants.At, the-variants.Refused as Nowhere}
 use Rattle.registers.specs.Address.{idxDef}
 use Rattle.registers.specs.Numbers.{areValid}
 use Rattle.registers.proofs.Numbers.{are-valid, valid}
-use Rattle.csrs.specs.declared.CsrLookup.{CsrLookup}
-use Rattle.csrs.specs.declared.CsrLookup.the-variants.{Found, Missing}
+use Rattle.csrs.specs.declared.CsrLookup.{CsrLookup, the-variants.Found, the-variants.Missing}
 use Rattle.profiles.specs.declared.Profile.{Profile}
 use Rattle.csrs.specs.Gates.{decodeCsrDef, isFound, available}
 use Rattle.csrs.proofs.Laws.{found-idx, found-lt, own}
 use Rattle.forms.specs.declared.Wrote.the-variants.{Word}
 use Rattle.forms.specs.Layout.{Layout, Operand, imm, rd, rs1, rs2, funct, csr, all}
-use Rattle.forms.specs.Table.{Answer, value, refusal, numberIn, sound}
+use Rattle.forms.specs.Answer.{Answer, value, refusal, numberIn}
+use Rattle.forms.specs.Sound.{sound}
 use Rattle.forms.specs.Meaning.{Agrees, Every, Faithful, readOf, writeOf}
 use Rattle.forms.specs.Demand3.{RefusedExactly, OnlyWord}
 use Rattle.utils.proofs.Tests.{on}
 use Rattle.forms.proofs.Accepts.{room, roomy, made-of}
-use Rattle.forms.proofs.Table.{no-value}
+use Rattle.forms.proofs.Answer.{no-value}
 use Rattle.forms.proofs.AnyReader.{no-word, refused-by, only-by}
 use Rattle.forms.proofs.Demand3 as table
-use Rattle.system_decoder.specs.declared.CsrOp.{CsrOp}
-use Rattle.system_decoder.specs.declared.CsrOp.the-variants.{Write, Set, Clear}
-use Rattle.system_decoder.specs.declared.Fence.{Fence}
-use Rattle.system_decoder.specs.declared.Fence.the-variants.{Vma, Vvma, Gvma}
+use Rattle.system_decoder.specs.declared.CsrOp.{CsrOp, the-variants.Write, the-variants.Set, the-variants.Clear}
+use Rattle.system_decoder.specs.declared.Fence.{Fence, the-variants.Vma, the-variants.Vvma, the-variants.Gvma}
 use Rattle.system_decoder.specs.declared.IllegalInst.{IllegalInst}
 use Rattle.system_decoder.specs.declared.IllegalInst.the-variants.{Wfi, Csrrw, Csrrs, Csrrc, Csrrwi, Csrrsi, Csrrci, Mret, Sret, Sfencevma, Hfencevvma, Hfencegvma}
 use Rattle.system_decoder.specs.declared.IllegalRead.the-variants.{Inst, InvalidCsrOp}
@@ -48,12 +38,12 @@ use Rattle.system_encoder.specs.System.{reached, checkedDef, placeOf, ac
 system-sound : sound system ≡ true
 system-sound = refl
 
--- a line's operands make a shape that has these operands: each field of `lines` is `refl`
+-- a form's operands make a shape that has these operands: each field of `layouts` is `refl`
 faithful : Faithful system meaning
-faithful = record { lines = lines; code-ops = code-ops; make-ops = λ s _ _. make-ops s }
+faithful = record { layouts = layouts; code-ops = code-ops; make-ops = λ s _ _. make-ops s }
   where
-    lines : Every (λ L. (w : ℕ) → Agrees meaning L w) system
-    lines = search depth 20
+    layouts : Every (λ L. (w : ℕ) → Agrees meaning L w) system
+    layouts = search depth 20
 
     code-ops : (s : Shape) (n : ℕ) → Is 0 ≡ Is n → n ≡ operandsOf s imm
     code-ops wfi n e = cc

@@ -10,7 +10,7 @@ use Rattle.profiles.specs.declared.Profile.{Profile}
 use Rattle.csrs.specs.Gates.{available}
 use Rattle.forms.specs.declared.Wrote.{Wrote}
 use Rattle.forms.specs.declared.Wrote.the-variants.{Refused}
-use Rattle.forms.specs.Table.{Answer, value, refusal}
+use Rattle.forms.specs.Answer.{Answer, value, refusal}
 use Rattle.forms.specs.Meaning.{writeOf}
 use Rattle.system_decoder.specs.declared.CsrOp.{CsrOp}
 use Rattle.system_decoder.specs.declared.CsrOp.the-variants.{Write, Set, Clear}

@@ -4,7 +4,7 @@ ghost use mathlib.Core.Path.{_≡_};
 ghost use mathlib.Core.Bool.{Bool};
 ghost use Prim.Native.Nat.{_*_, _^_};
 ghost use Rattle.forms.specs.declared.Wrote.the-variants.{Word};
-ghost use Rattle.forms.specs.Table.{numberIn};
+ghost use Rattle.forms.specs.Answer.{numberIn};
 ghost use Rattle.forms.specs.Meaning.{writeOf};
 ghost use Rattle.system_decoder.specs.Forms.{funct7, system};
 ghost use Rattle.system_decoder.specs.System.{Low, funct3, meaning};

@@ -1,21 +1,13 @@
 -- The laws of two's complement over a half H, once for every width, and the machine's reading of a signed number. Assumes nothing.
-use mathlib.Core.Path.{_≡_, refl, sym, ap, _∙_, subst}
-use mathlib.Core.Bool.{Bool, true, false, cond}
-use Prim.Native.Nat.{ℕ, suc, _-_, _*_, _%_, _^_, _≤_, _<_}
-use native.Mathlib.Nat.{suc-sub-suc, mod-eq-of-lt}
-use native.Mathlib.Omega.{arith}
-use borrow.Author.Tests.{lt-ltb, le-ltb, ltb-true, ltb-false}
-use lib.Dec.{T, ltb}
-use lib.IntN.{ℤ, pos, negsuc, _-ℤ_, natAbs}
-use lib.Signed.{mag, ltZ, nonNeg}
-use mir.Syntax.{w64}
-use mir.Val.{SFits, Fits, toZ, ofZ}
-use mir.ValLaws.{toZ-ofZ, toZ-pos}
-use Rattle.utils.specs.declared.Sign.{Sign}
-use Rattle.utils.specs.declared.Sign.the-variants.{Up, Down}
+use Rattle.utils.proofs.Prelude.{_≡_, refl, sym, ap, _∙_, subst, Bool, true, false, cond, ℕ, suc, _*_, _-_, _%_, _^_, _<_, _≤_, arith, ltb, T}
+use Rattle.utils.proofs.Prelude.{mod-eq-of-lt, ℤ, mag, w64, SFits, Fits, toZ, ofZ, toZ-ofZ, lt-ltb, le-ltb, ltb-true, ltb-false}
+use native.Mathlib.Nat.{suc-sub-suc}
+use lib.IntN.{pos, negsuc, _-ℤ_, natAbs}
+use lib.Signed.{ltZ, nonNeg}
+use mir.ValLaws.{toZ-pos}
+use Rattle.utils.specs.declared.Sign.{Sign, the-variants.Up, the-variants.Down}
 use Rattle.utils.specs.Signed.{signed, twos, parts, codeDef}
-use Rattle.utils.specs.declared.Code.{Code}
-use Rattle.utils.specs.declared.Code.the-variants.{Is, Out}
+use Rattle.utils.specs.declared.Code.{Code, the-variants.Is, the-variants.Out}
 
 -- ---- a test, both ways, with its equation
 pub by-test : {X : Type 0} (b : Bool) → (b ≡ true → X) → (b ≡ false → X) → X

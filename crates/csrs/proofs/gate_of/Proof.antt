@@ -1,9 +1,6 @@
 -- `csrs::gate_of` meets its contract: each arm by the line of the table that has its registers, which are told by their variants' numbers.
 -- Assumes nothing.
-use mathlib.Core.Path.{sym, ap, _∙_}
-use mathlib.Core.List.{[], _∷_}
-use native.Mathlib.Omega.{arith}
-use borrow.Author.Needs.{needs}
+use Rattle.utils.proofs.Prelude.{sym, ap, _∙_, [], _∷_, arith, needs}
 use Rattle.registers.specs.Address.{idxDef}
 use Rattle.registers.proofs.Find.{all, keeps}
 use Rattle.csrs.specs.Gates.{spotDef, gateDef}
@@ -17,10 +14,7 @@ unfolding all keeps if-among in-group no-row spotDef
 gate-of-spec =
     tie.close
     (tie.spec
-    (λ c. search needs)
-    (λ c. search needs)
-    (λ c. search needs)
-    (λ c. search needs)
+    (λ c. search needs) (λ c. search needs) (λ c. search needs) (λ c. search needs)
     (λ c.
     let g = c .before .register .given in
     omega (arith, custom-low (g .0 .0) (sym (ap idxDef (g .1)) ∙ c .before .before .before .pre .1)))

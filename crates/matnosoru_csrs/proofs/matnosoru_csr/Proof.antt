@@ -1,10 +1,8 @@
 -- `matnosoru_csrs::matnosoru_csr` meets its contract: each arm knows what was found at the address. Assumes nothing.
-use mathlib.Core.Path.{sym, ap, _∙_}
-use mathlib.Core.Bool.{cond}
+use Rattle.utils.proofs.Prelude.{sym, ap, _∙_, cond, needs}
 use Rattle.profiles.specs.declared.Profile.{Profile}
 use Rattle.csrs.specs.declared.CsrLookup.{CsrLookup}
 use Rattle.csrs.specs.Gates.{isFound, available}
-use borrow.Author.Needs.{needs}
 use Rattle.matnosoru_csrs.proofs.matnosoru_csr.Statement.{statement}
 use Rattle.matnosoru_csrs.proofs.matnosoru_csr.Tie as tie
 
@@ -30,9 +28,6 @@ pub matnosoru-csr-spec : {M : Type 1} → statement M
 matnosoru-csr-spec =
     tie.close
     (tie.spec
-    (λ c κs. search needs)
-    (λ c κs. search needs)
-    (λ c. search needs)
-    (λ c. search needs)
+    (λ c κs. search needs) (λ c κs. search needs) (λ c. search needs) (λ c. search needs)
     returns
     returns-2)

@@ -1,5 +1,5 @@
 -- `matnosoru_csrs::matnosoru_csr_count` meets its contract: the count is that of the profile. Assumes nothing.
-use borrow.Author.Needs.{needs}
+use Rattle.utils.proofs.Prelude.{needs}
 use Rattle.matnosoru_csrs.proofs.matnosoru_csr_count.Statement.{statement}
 use Rattle.matnosoru_csrs.proofs.matnosoru_csr_count.Tie as tie
 

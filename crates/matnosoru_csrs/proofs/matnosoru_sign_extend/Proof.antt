@@ -1,13 +1,7 @@
 -- `matnosoru_csrs::matnosoru_sign_extend` meets its contract: more than eight bytes are no width, and each arm knows the width. Assumes nothing.
-use mathlib.Core.Path.{_≡_, sym, ap, _∙_}
-use mathlib.Core.Bool.{false}
-use Prim.Native.Nat.{ℕ, _*_, _≤_}
-use native.Mathlib.Omega.{arith}
-use borrow.Author.Tests.{ne-eqb}
-use lib.Dec.{eqb}
+use Rattle.utils.proofs.Prelude.{_≡_, sym, ap, _∙_, false, ℕ, _*_, _≤_, arith, eqb, needs, ne-eqb}
 use Rattle.utils.specs.declared.WidthFrom.{WidthFrom}
 use Rattle.matnosoru_csrs.specs.Csrs.{extendedBy}
-use borrow.Author.Needs.{needs}
 use Rattle.matnosoru_csrs.proofs.matnosoru_sign_extend.Statement.{statement}
 use Rattle.matnosoru_csrs.proofs.matnosoru_sign_extend.Tie as tie
 
@@ -35,10 +29,6 @@ matnosoru-sign-extend-spec =
     tie.close
     (tie.spec
     returns
-    (λ c. search needs)
-    (λ c κs. search needs)
-    (λ c. search needs)
-    (λ c κs. search needs)
-    (λ c. search needs)
+    (λ c. search needs) (λ c κs. search needs) (λ c. search needs) (λ c κs. search needs) (λ c. search needs)
     returns-2
     returns-3)

@@ -1,10 +1,8 @@
 -- `matnosoru_csrs::matnosoru_tables_differ` meets its contract: each exit by the tests on its way. Assumes nothing.
-use mathlib.Core.Path.{sym, ap, subst, _∙_}
-use denote.Ref.{now}
+use Rattle.utils.proofs.Prelude.{sym, ap, _∙_, subst, now, needs}
 use Rattle.harts.specs.Table.{FirstDifference}
 use Rattle.matnosoru_csrs.specs.Csrs.{place}
 use Rattle.matnosoru_csrs.proofs.Tables.{first-short, second-short, both-long}
-use borrow.Author.Needs.{needs}
 use Rattle.matnosoru_csrs.proofs.matnosoru_tables_differ.Statement.{statement}
 use Rattle.matnosoru_csrs.proofs.matnosoru_tables_differ.Tie as tie
 
@@ -60,10 +58,7 @@ matnosoru-tables-differ-spec =
     returns
     (λ c κs. search needs)
     returns-2
-    (λ c κs. search needs)
-    (λ c κs. search needs)
-    (λ c κs. search needs)
-    (λ c. search needs)
+    (λ c κs. search needs) (λ c κs. search needs) (λ c κs. search needs) (λ c. search needs)
     place-of-requires
     (λ c. search needs)
     returns-3

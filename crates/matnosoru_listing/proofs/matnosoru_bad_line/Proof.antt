@@ -1,14 +1,9 @@
 -- `matnosoru_listing::matnosoru_bad_line` meets its contract: a number from 1 to 255 has a line that fits. Assumes nothing.
-use mathlib.Core.Path.{ap, _∙_}
-use denote.Ref.{now}
-use lib.ListN.{length}
-use native.Mathlib.Omega.{arith}
-use borrow.Author.Tests.{lt-ltb, le-ltb, le-leb, lt-leb}
+use Rattle.utils.proofs.Prelude.{ap, _∙_, arith, length, now, needs, lt-ltb, le-ltb, le-leb, lt-leb}
 use Rattle.listing.specs.Listing.{badLine}
 use Rattle.listing.proofs.Fits.{bad-fits}
 use Rattle.abi.specs.Abi.{length-or}
 use Rattle.log_steps.proofs.Lines.{text-put}
-use borrow.Author.Needs.{needs}
 use Rattle.matnosoru_listing.proofs.matnosoru_bad_line.Statement.{statement}
 use Rattle.matnosoru_listing.proofs.matnosoru_bad_line.Tie as tie
 
@@ -45,9 +40,5 @@ matnosoru-bad-line-spec =
     returns
     (λ c κs. search needs)
     returns-2
-    (λ c. search needs)
-    (λ c κs. search needs)
-    (λ c κs. search needs)
-    (λ c κs. search needs)
-    (λ c. search needs)
+    (λ c. search needs) (λ c κs. search needs) (λ c κs. search needs) (λ c κs. search needs) (λ c. search needs)
     returns-3)

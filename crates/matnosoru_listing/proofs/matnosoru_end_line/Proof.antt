@@ -1,13 +1,9 @@
 -- `matnosoru_listing::matnosoru_end_line` meets its contract: the line fits, so that its text is put. Assumes nothing.
-use mathlib.Core.Path.{ap, _∙_}
-use denote.Ref.{now}
-use lib.ListN.{length}
-use native.Mathlib.Omega.{arith}
+use Rattle.utils.proofs.Prelude.{ap, _∙_, arith, length, now, needs}
 use Rattle.listing.specs.Listing.{endLine}
 use Rattle.listing.proofs.Fits.{end-fits}
 use Rattle.abi.specs.Abi.{length-or}
 use Rattle.log_steps.proofs.Lines.{text-put}
-use borrow.Author.Needs.{needs}
 use Rattle.matnosoru_listing.proofs.matnosoru_end_line.Statement.{statement}
 use Rattle.matnosoru_listing.proofs.matnosoru_end_line.Tie as tie
 
@@ -25,8 +21,5 @@ pub matnosoru-end-line-spec : {M : Type 1} → statement M
 matnosoru-end-line-spec =
     tie.close
     (tie.spec
-    (λ c κs. search needs)
-    (λ c κs. search needs)
-    (λ c κs. search needs)
-    (λ c. search needs)
+    (λ c κs. search needs) (λ c κs. search needs) (λ c κs. search needs) (λ c. search needs)
     returns)

@@ -1,12 +1,8 @@
 -- `matnosoru_listing::matnosoru_header` meets its contract: the line fits, so that its text is put. Assumes nothing.
-use mathlib.Core.Path.{ap, _∙_}
-use denote.Ref.{now}
-use lib.ListN.{length}
-use native.Mathlib.Omega.{arith}
+use Rattle.utils.proofs.Prelude.{ap, _∙_, arith, length, now, needs}
 use Rattle.listing.specs.Listing.{header}
 use Rattle.abi.specs.Abi.{length-or}
 use Rattle.log_steps.proofs.Lines.{text-put}
-use borrow.Author.Needs.{needs}
 use Rattle.matnosoru_listing.proofs.matnosoru_header.Statement.{statement}
 use Rattle.matnosoru_listing.proofs.matnosoru_header.Tie as tie
 
@@ -22,8 +18,5 @@ pub matnosoru-header-spec : {M : Type 1} → statement M
 matnosoru-header-spec =
     tie.close
     (tie.spec
-    (λ c κs. search needs)
-    (λ c κs. search needs)
-    (λ c κs. search needs)
-    (λ c. search needs)
+    (λ c κs. search needs) (λ c κs. search needs) (λ c κs. search needs) (λ c. search needs)
     returns)

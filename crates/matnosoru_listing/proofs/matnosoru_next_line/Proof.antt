@@ -1,10 +1,7 @@
 -- `matnosoru_listing::matnosoru_next_line` meets its contract: each way knows the current profile, or its refusal. Assumes nothing.
-use mathlib.Core.Path.{sym, ap, _∙_}
-use denote.Ref.{now}
-use lib.ListN.{length}
+use Rattle.utils.proofs.Prelude.{sym, ap, _∙_, length, now, needs}
 use Rattle.harts.specs.declared.ProfileAt.{ProfileAt}
 use Rattle.matnosoru_listing.specs.Lines.{nextLine, nextLineOut, nextLineState}
-use borrow.Author.Needs.{needs}
 use Rattle.matnosoru_listing.proofs.matnosoru_next_line.Statement.{statement}
 use Rattle.matnosoru_listing.proofs.matnosoru_next_line.Tie as tie
 
@@ -40,13 +37,8 @@ pub matnosoru-next-line-spec : {M : Type 1} → statement M
 matnosoru-next-line-spec =
     tie.close
     (tie.spec
-    (λ c κs. search needs)
-    (λ c. search needs)
-    (λ c κs. search needs)
-    (λ c. search needs)
-    (λ c κs. search needs)
-    (λ c. search needs)
-    (λ c. search needs)
+    (λ c κs. search needs) (λ c. search needs) (λ c κs. search needs) (λ c. search needs) (λ c κs. search needs)
+    (λ c. search needs) (λ c. search needs)
     returns
     (λ c. search needs)
     returns-2)

@@ -1,11 +1,8 @@
 -- `matnosoru_log::matnosoru_line` meets its contract: the line under the profile of the two words. Assumes nothing.
-use mathlib.Core.Path.{ap, _∙_}
-use lib.ListN.{length}
-use denote.Ref.{now}
+use Rattle.utils.proofs.Prelude.{ap, _∙_, length, now, needs}
 use Rattle.profiles.specs.declared.Profile.{Profile}
 use Rattle.log_reader.specs.Read.{parse}
 use Rattle.log_steps.specs.Lines.{lineDef, lineOut}
-use borrow.Author.Needs.{needs}
 use Rattle.matnosoru_log.proofs.matnosoru_line.Statement.{statement}
 use Rattle.matnosoru_log.proofs.matnosoru_line.Tie as tie
 

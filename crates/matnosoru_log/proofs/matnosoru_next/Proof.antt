@@ -1,10 +1,8 @@
 -- `matnosoru_log::matnosoru_next` meets its contract: each way knows what was read and under which profile. Assumes nothing.
-use mathlib.Core.Path.{sym, ap, _∙_}
-use denote.Ref.{now}
+use Rattle.utils.proofs.Prelude.{sym, ap, _∙_, now, needs}
 use Rattle.harts.specs.declared.ProfileAt.{ProfileAt}
 use Rattle.log_steps.specs.Next.{readUnder}
 use Rattle.matnosoru_log.specs.Next.{recordLength, nextState}
-use borrow.Author.Needs.{needs}
 use Rattle.matnosoru_log.proofs.matnosoru_next.Statement.{statement}
 use Rattle.matnosoru_log.proofs.matnosoru_next.Tie as tie
 
@@ -44,16 +42,8 @@ pub matnosoru-next-spec : {M : Type 1} → statement M
 matnosoru-next-spec =
     tie.close
     (tie.spec
-    (λ c κs. search needs)
-    (λ c. search needs)
-    (λ c κs. search needs)
-    (λ c. search needs)
-    (λ c κs. search needs)
-    (λ c. search needs)
-    (λ c κs. search needs)
-    (λ c. search needs)
-    (λ c κs. search needs)
-    (λ c. search needs)
+    (λ c κs. search needs) (λ c. search needs) (λ c κs. search needs) (λ c. search needs) (λ c κs. search needs)
+    (λ c. search needs) (λ c κs. search needs) (λ c. search needs) (λ c κs. search needs) (λ c. search needs)
     returns
     (λ c. search needs)
     returns-2

@@ -1,10 +1,8 @@
 -- `matnosoru_log::matnosoru_read_record` meets its contract: each arm knows the answer of the reading. Assumes nothing.
-use mathlib.Core.Path.{sym, ap, _∙_}
-use denote.Ref.{now}
+use Rattle.utils.proofs.Prelude.{sym, ap, _∙_, now, needs}
 use Rattle.profiles.specs.declared.Profile.{Profile}
 use Rattle.log_reader.specs.Read.{parse}
 use Rattle.matnosoru_log.specs.Next.{recordLength}
-use borrow.Author.Needs.{needs}
 use Rattle.matnosoru_log.proofs.matnosoru_read_record.Statement.{statement}
 use Rattle.matnosoru_log.proofs.matnosoru_read_record.Tie as tie
 
@@ -30,10 +28,6 @@ pub matnosoru-read-record-spec : {M : Type 1} → statement M
 matnosoru-read-record-spec =
     tie.close
     (tie.spec
-    (λ c κs. search needs)
-    (λ c κs. search needs)
-    (λ c. search needs)
-    (λ c. search needs)
-    (λ c κs. search needs)
+    (λ c κs. search needs) (λ c κs. search needs) (λ c. search needs) (λ c. search needs) (λ c κs. search needs)
     returns
     returns-2)

@@ -1,6 +1,5 @@
 -- `matnosoru_log::matnosoru_start` meets its contract: a state is begun, and what is no state is refused. Assumes nothing.
-use borrow.Author.Tests.{eq-eqb, ne-eqb}
-use borrow.Author.Needs.{needs}
+use Rattle.utils.proofs.Prelude.{needs, eq-eqb, ne-eqb}
 use Rattle.matnosoru_log.proofs.matnosoru_start.Statement.{statement}
 use Rattle.matnosoru_log.proofs.matnosoru_start.Tie as tie
 
@@ -16,6 +15,5 @@ matnosoru-start-spec =
     (tie.spec
     (λ c κs. search needs)
     returns
-    (λ c κs. search needs)
-    (λ c. search needs)
+    (λ c κs. search needs) (λ c. search needs)
     returns-2)

@@ -1,16 +1,11 @@
 -- `matnosoru_log::matnosoru_write_profile` meets its contract: the record's, of the profile that the two words are. Assumes nothing.
-use mathlib.Core.Path.{ap, _∙_}
-use mathlib.Core.List.{List}
-use Prim.Native.Nat.{ℕ}
-use lib.ListN.{length}
-use denote.Ref.{now}
+use Rattle.utils.proofs.Prelude.{ap, _∙_, List, ℕ, length, now, needs}
 use Rattle.profiles.specs.declared.Profile.{Profile}
 use Rattle.profiles.specs.Profile.{emptyProfile}
-use Rattle.forms.specs.Table.{Answer}
+use Rattle.forms.specs.Answer.{Answer}
 use Rattle.log_records.specs.declared.Record.the-variants.{Hart}
 use Rattle.log_records.specs.Record.{recordDef, writtenDef, writtenOut}
 use Rattle.abi.specs.Abi.{length-or}
-use borrow.Author.Needs.{needs}
 use Rattle.matnosoru_log.proofs.matnosoru_write_profile.Statement.{statement}
 use Rattle.matnosoru_log.proofs.matnosoru_write_profile.Tie as tie
 

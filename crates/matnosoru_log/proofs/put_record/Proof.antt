@@ -1,14 +1,9 @@
 -- `matnosoru_log::put_record` meets its contract: the record's under the empty profile. Assumes nothing.
-use mathlib.Core.Path.{ap, _∙_}
-use mathlib.Core.List.{List}
-use Prim.Native.Nat.{ℕ}
-use lib.ListN.{length}
-use denote.Ref.{now}
+use Rattle.utils.proofs.Prelude.{ap, _∙_, List, ℕ, length, now, needs}
 use Rattle.profiles.specs.declared.Profile.{Profile}
-use Rattle.forms.specs.Table.{Answer}
+use Rattle.forms.specs.Answer.{Answer}
 use Rattle.log_records.specs.Record.{recordDef, writtenDef, writtenOut}
 use Rattle.abi.specs.Abi.{length-or}
-use borrow.Author.Needs.{needs}
 use Rattle.matnosoru_log.proofs.put_record.Statement.{statement}
 use Rattle.matnosoru_log.proofs.put_record.Tie as tie
 
@@ -27,8 +22,5 @@ pub put-record-spec : {M : Type 1} → statement M
 put-record-spec =
     tie.close
     (tie.spec
-    (λ c κs. search needs)
-    (λ c κs. search needs)
-    (λ c κs. search needs)
-    (λ c. search needs)
+    (λ c κs. search needs) (λ c κs. search needs) (λ c κs. search needs) (λ c. search needs)
     returns)

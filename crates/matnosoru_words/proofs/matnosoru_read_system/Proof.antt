@@ -1,5 +1,5 @@
 -- `matnosoru_words::matnosoru_read_system` meets its contract: the SYSTEM reading under the profile of the two words. Assumes nothing.
-use borrow.Author.Needs.{needs}
+use Rattle.utils.proofs.Prelude.{needs}
 use Rattle.matnosoru_words.proofs.matnosoru_read_system.Statement.{statement}
 use Rattle.matnosoru_words.proofs.matnosoru_read_system.Tie as tie
 

@@ -1,5 +1,5 @@
 -- `matnosoru_words::matnosoru_write` meets its contract: the word written under the profile of the two words. Assumes nothing.
-use borrow.Author.Needs.{needs}
+use Rattle.utils.proofs.Prelude.{needs}
 use Rattle.matnosoru_words.proofs.matnosoru_write.Statement.{statement}
 use Rattle.matnosoru_words.proofs.matnosoru_write.Tie as tie
 

@@ -1,11 +1,9 @@
 -- `matnosoru_words::matnosoru_write_instruction` meets its contract: the answer tells whether there is a word, and so a record. Assumes nothing.
-use mathlib.Core.Path.{ap, _∙_}
-use denote.Ref.{now}
+use Rattle.utils.proofs.Prelude.{ap, _∙_, now, needs}
 use Rattle.profiles.specs.declared.Profile.{Profile}
 use Rattle.instruction_word.specs.Written.{crossed, written}
 use Rattle.abi.specs.Abi.{profile}
 use Rattle.matnosoru_words.proofs.Crossing.{not-put, kind-low, put}
-use borrow.Author.Needs.{needs}
 use Rattle.matnosoru_words.proofs.matnosoru_write_instruction.Statement.{statement}
 use Rattle.matnosoru_words.proofs.matnosoru_write_instruction.Tie as tie
 
@@ -45,8 +43,7 @@ pub matnosoru-write-instruction-spec : {M : Type 1} → statement M
 matnosoru-write-instruction-spec =
     tie.close
     (tie.spec
-    (λ c κs. search needs)
-    (λ c κs. search needs)
+    (λ c κs. search needs) (λ c κs. search needs)
     returns
     put-word-requires
     (λ c. search needs)

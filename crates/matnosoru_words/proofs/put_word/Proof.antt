@@ -1,17 +1,10 @@
 -- `matnosoru_words::put_word` meets its contract: the record is the front of the word's bytes. Assumes nothing.
-use mathlib.Core.Path.{_≡_, sym, ap, _∙_}
-use mathlib.Core.List.{List}
-use Prim.Native.Nat.{ℕ, _%_}
-use native.Mathlib.Omega.{arith}
-use lib.ListN.{length, take}
-use lib.Seq.{length-take-le}
-use denote.Ref.{now}
+use Rattle.utils.proofs.Prelude.{_≡_, sym, ap, _∙_, List, ℕ, _%_, arith, length, take, length-take-le, now, needs}
 use Rattle.octets.specs.Bytes.{leBytes, emitted, emittedOut}
 use Rattle.log_kinds.specs.Length.{lengthOf}
 use Rattle.instruction_word.proofs.Writing.{short-kind}
 use Rattle.abi.specs.Abi.{length-or}
 use Rattle.matnosoru_words.proofs.Crossing.{front}
-use borrow.Author.Needs.{needs}
 use Rattle.matnosoru_words.proofs.put_word.Statement.{statement}
 use Rattle.matnosoru_words.proofs.put_word.Tie as tie
 
@@ -51,12 +44,8 @@ pub put-word-spec : {M : Type 1} → statement M
 put-word-spec =
     tie.close
     (tie.spec
-    (λ c. search needs)
-    (λ c κs. search needs)
-    (λ c κs. search needs)
+    (λ c. search needs) (λ c κs. search needs) (λ c κs. search needs)
     array-share-prefix-b
     slice-aggregate-emit
-    (λ c κs. search needs)
-    (λ c κs. search needs)
-    (λ c. search needs)
+    (λ c κs. search needs) (λ c κs. search needs) (λ c. search needs)
     returns)

@@ -1,5 +1,5 @@
--- `memory_decoder::compressed_double_imm` meets its contract: what it gathers is the immediate of C.LD's line. Assumes nothing.
-use mathlib.Core.Path.{refl}
+-- `memory_decoder::compressed_double_imm` meets its contract: what it gathers is the immediate of C.LD's form. Assumes nothing.
+use Rattle.utils.proofs.Prelude.{refl}
 use Rattle.memory_decoder.specs.Forms.{c-ld}
 use Rattle.memory_decoder.proofs.Reading.{unsigned-fits, unsigned-is}
 use Rattle.memory_decoder.proofs.compressed_double_imm.Statement.{statement}

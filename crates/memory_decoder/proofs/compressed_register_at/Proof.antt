@@ -1,5 +1,5 @@
 -- `memory_decoder::compressed_register_at` meets its contract: the mask leaves three bits. Assumes nothing.
-use borrow.Author.Needs.{needs}
+use Rattle.utils.proofs.Prelude.{needs}
 use Rattle.memory_decoder.proofs.Reading.{three, three-fits}
 use Rattle.memory_decoder.proofs.compressed_register_at.Statement.{statement}
 use Rattle.memory_decoder.proofs.compressed_register_at.Tie as tie

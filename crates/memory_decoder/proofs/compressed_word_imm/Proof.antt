@@ -1,5 +1,5 @@
--- `memory_decoder::compressed_word_imm` meets its contract: what it gathers is the immediate of C.LW's line. Assumes nothing.
-use mathlib.Core.Path.{refl}
+-- `memory_decoder::compressed_word_imm` meets its contract: what it gathers is the immediate of C.LW's form. Assumes nothing.
+use Rattle.utils.proofs.Prelude.{refl}
 use Rattle.memory_decoder.specs.Forms.{c-lw}
 use Rattle.memory_decoder.proofs.Reading.{unsigned-fits, unsigned-is}
 use Rattle.memory_decoder.proofs.compressed_word_imm.Statement.{statement}

@@ -1,9 +1,5 @@
 -- `memory_decoder::decode_compressed_store` meets its contract: each arm knows the low two bits. Assumes nothing.
-use mathlib.Core.Path.{_≡_, refl, sym, _∙_}
-use Prim.Native.Nat.{_%_, _^_}
-use mathlib.Core.List.{[], _∷_}
-use native.Mathlib.Omega.{arith}
-use borrow.Author.Needs.{needs}
+use Rattle.utils.proofs.Prelude.{_≡_, refl, sym, _∙_, [], _∷_, _%_, _^_, arith, needs}
 use Rattle.forms.proofs.Facts.{is, isnt}
 use Rattle.memory_decoder.specs.Store.{storeDef}
 use Rattle.memory_decoder.proofs.Lengths.{by-length}

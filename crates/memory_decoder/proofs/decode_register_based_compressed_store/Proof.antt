@@ -1,8 +1,5 @@
--- `memory_decoder::decode_register_based_compressed_store` meets its contract: each arm knows funct3, and so the line. Assumes nothing.
-use mathlib.Core.Path.{refl, _∙_}
-use mathlib.Core.Bool.{true}
-use mathlib.Core.List.{[], _∷_}
-use borrow.Author.Needs.{needs}
+-- `memory_decoder::decode_register_based_compressed_store` meets its contract: each arm knows funct3, and so the form. Assumes nothing.
+use Rattle.utils.proofs.Prelude.{refl, _∙_, true, [], _∷_, needs}
 use Rattle.forms.proofs.Facts.{is, isnt, seen, unseen}
 use Rattle.memory_decoder.specs.Store.{storeDef}
 use Rattle.utils.proofs.Signed.{kept}
@@ -15,10 +12,7 @@ unfolding storeDef
 decode-register-based-compressed-store-spec =
     tie.close
     (tie.spec
-    (λ c κs. search needs)
-    (λ c κs. search needs)
-    (λ c κs. search needs)
-    (λ c κs. search needs)
+    (λ c κs. search needs) (λ c κs. search needs) (λ c κs. search needs) (λ c κs. search needs)
     (λ c.
     let arm = c .before in
     let base = arm .before in

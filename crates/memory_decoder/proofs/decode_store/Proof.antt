@@ -1,6 +1,5 @@
 -- `memory_decoder::decode_store` meets its contract: each arm knows the word's length. Assumes nothing.
-use mathlib.Core.Path.{sym, _∙_}
-use borrow.Author.Needs.{needs}
+use Rattle.utils.proofs.Prelude.{sym, _∙_, needs}
 use Rattle.memory_decoder.specs.Store.{storeDef}
 use Rattle.memory_decoder.specs.declared.StoreRead.the-variants.{Refused}
 use Rattle.memory_decoder.proofs.Lengths.{if-long, if-short}
@@ -11,9 +10,7 @@ pub decode-store-spec : {M : Type 1} → statement M
 decode-store-spec =
     tie.close
     (tie.spec
-    (λ c κs. search needs)
-    (λ c κs. search needs)
-    (λ c κs. search needs)
+    (λ c κs. search needs) (λ c κs. search needs) (λ c κs. search needs)
     (λ c.
     let s = c .before .before in
     let a = s .before .args in

@@ -1,9 +1,5 @@
--- `memory_decoder::decode_uncompressed_load` meets its contract: the tests are those of the 32-bit line. Assumes nothing.
-use mathlib.Core.Path.{refl, ap, _∙_}
-use mathlib.Core.Bool.{false}
-use mathlib.Core.List.{[], _∷_}
-use borrow.Author.Needs.{needs}
-use lib.Dec.{leb}
+-- `memory_decoder::decode_uncompressed_load` meets its contract: the tests are those of the 32-bit form. Assumes nothing.
+use Rattle.utils.proofs.Prelude.{refl, ap, _∙_, false, [], _∷_, leb, needs}
 use Rattle.utils.proofs.Bits.{mask-field}
 use Rattle.forms.proofs.Facts.{is, isnt, seen, unseen}
 use Rattle.memory_decoder.specs.Funct3.{widthOf}
@@ -26,10 +22,7 @@ decode-uncompressed-load-spec =
     let w = c .before .before .args .raw in
     let op = seen w 0 7 (c .before .if1 .left) in
     long-reads loading w (opcode-long w 0x03 refl op) (reads loading w (is 0 7 0x03 ∷ is 12 3 0b111 ∷ []) (op, (seen w 12 3 (c .if2 .taken), tt)) refl))
-    (λ c κs. search needs)
-    (λ c κs. search needs)
-    (λ c κs. search needs)
-    (λ c κs. search needs)
+    (λ c κs. search needs) (λ c κs. search needs) (λ c κs. search needs) (λ c κs. search needs)
     (λ c.
     let imm = c .before in
     let base = imm .before in

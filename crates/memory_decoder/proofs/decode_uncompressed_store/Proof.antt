@@ -1,13 +1,6 @@
--- `memory_decoder::decode_uncompressed_store` meets its contract: the tests are those of the 32-bit line, and the immediate is gathered. Assumes nothing.
-use mathlib.Core.Path.{_≡_, refl, sym, ap, _∙_}
-use mathlib.Core.Bool.{false}
-use mathlib.Core.List.{[], _∷_}
-use Prim.Native.Nat.{ℕ, _+_, _*_, _/_, _%_, _^_, _≤_, _<_}
-use native.Mathlib.Nat.{mod-eq-of-lt, div-one}
-use native.Mathlib.Omega.{arith}
-use borrow.Author.Needs.{needs}
-use lib.Bits.{bitAnd}
-use lib.ListN.{getD}
+-- `memory_decoder::decode_uncompressed_store` meets its contract: the tests are those of the 32-bit form, and the immediate is gathered. Assumes nothing.
+use Rattle.utils.proofs.Prelude.{_≡_, refl, sym, ap, _∙_, false, [], _∷_, ℕ, _+_, _*_, _/_, _%_, _^_, _<_, _≤_, mod-eq-of-lt, arith, getD, bitAnd, needs}
+use native.Mathlib.Nat.{div-one}
 use lib.Pow.{mod-mod-pow}
 use Rattle.utils.specs.Field.{fld}
 use Rattle.utils.specs.Signed.{signed}
@@ -61,10 +54,7 @@ decode-uncompressed-store-spec =
     let w = c .before .before .args .raw in
     let op = seen w 0 7 (c .before .if1 .left) in
     long-reads storing w (opcode-long w 0x23 refl op) (reads storing w (is 0 7 0x23 ∷ isnt 14 1 0b0 ∷ []) (op, (no-top-bit w (c .if2 .taken), tt)) refl))
-    (λ c κs. search needs)
-    (λ c κs. search needs)
-    (λ c κs. search needs)
-    (λ c κs. search needs)
+    (λ c κs. search needs) (λ c κs. search needs) (λ c κs. search needs) (λ c κs. search needs)
     (λ c.
     let imm = c .before in
     let source = imm .before in

@@ -1,5 +1,5 @@
 -- `memory_decoder::extract_last_two_bits` meets its contract: a mask is a remainder. Assumes nothing.
-use lib.Bits.{and-mask}
+use Rattle.utils.proofs.Prelude.{and-mask}
 use Rattle.memory_decoder.proofs.extract_last_two_bits.Statement.{statement}
 use Rattle.memory_decoder.proofs.extract_last_two_bits.Tie as tie
 

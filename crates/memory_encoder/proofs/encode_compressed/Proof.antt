@@ -1,6 +1,5 @@
--- `memory_encoder::encode_compressed` meets its contract: the registers and the width choose the line, and the immediate is tested by the line. Assumes nothing.
-use mathlib.Core.Path.{refl}
-use borrow.Author.Needs.{needs}
+-- `memory_encoder::encode_compressed` meets its contract: the registers and the width choose the form, and the immediate is tested by the form. Assumes nothing.
+use Rattle.utils.proofs.Prelude.{refl, needs}
 use Rattle.forms.specs.declared.Wrote.the-variants.{Word}
 use Rattle.memory_encoder.proofs.Writing.{narrow, word-arm, double-arm, no-register, no-base, no-width}
 use Rattle.memory_encoder.proofs.encode_compressed.Statement.{statement}
@@ -18,16 +17,8 @@ encode-compressed-spec =
     let s = c .before .before in
     let a = s .args in
     no-base (a .func3) (a .reg) (a .base) (a .imm) (s .pre .1) (a .len) (c .if2 .taken))
-    (λ c. search needs)
-    (λ c κs. search needs)
-    (λ c. search needs)
-    (λ c κs. search needs)
-    (λ c. search needs)
-    (λ c. search needs)
-    (λ c κs. search needs)
-    (λ c. search needs)
-    (λ c. search needs)
-    (λ c κs. search needs)
+    (λ c. search needs) (λ c κs. search needs) (λ c. search needs) (λ c κs. search needs) (λ c. search needs)
+    (λ c. search needs) (λ c κs. search needs) (λ c. search needs) (λ c. search needs) (λ c κs. search needs)
     (λ c. search needs)
     (λ c.
     let arm = c .before .before in

@@ -1,25 +1,15 @@
--- `memory_encoder::encode_load` meets its contract: the tests choose the line or the refusal, and the immediate is tested by the line. Assumes nothing.
-use mathlib.Core.Path.{_≡_, refl, sym, ap, _∙_}
-use mathlib.Core.Bool.{Bool, true, false}
-use mathlib.Core.List.{[], _∷_}
-use Prim.Native.Nat.{ℕ, _/_, _%_, _^_}
-use native.Mathlib.Nat.{mod-eq-of-lt}
-use native.Mathlib.Omega.{arith}
-use borrow.Author.Needs.{needs}
-use borrow.Author.Tests.{not-true, not-false}
-use lib.IntN.{ℤ}
-use mir.Syntax.{w64}
-use mir.Val.{SFits, toZ, ofZ}
-use mir.ValLaws.{toZ-ofZ}
+-- `memory_encoder::encode_load` meets its contract: the tests choose the form or the refusal, and the immediate is tested by the form. Assumes nothing.
+use Rattle.utils.proofs.Prelude.{_≡_, refl, sym, ap, _∙_, Bool, true, false, [], _∷_, ℕ, _/_, _%_, _^_, arith, needs}
+use Rattle.utils.proofs.Prelude.{mod-eq-of-lt, ℤ, w64, SFits, toZ, ofZ, toZ-ofZ, not-true}
+use borrow.Author.Tests.{not-false}
 use Rattle.utils.specs.Signed.{twos, codeDef}
 use Rattle.utils.specs.declared.Code.{Code}
 use Rattle.registers.specs.Numbers.{areValid}
 use Rattle.registers.proofs.Numbers.{valid, not-valid}
-use Rattle.forms.specs.declared.Wrote.{Wrote}
-use Rattle.forms.specs.declared.Wrote.the-variants.{Word, Refused}
+use Rattle.forms.specs.declared.Wrote.{Wrote, the-variants.Word, the-variants.Refused}
 use Rattle.forms.specs.Layout.{build}
 use Rattle.forms.specs.Meaning.{bitOf, within, put, writeOf, writeAs}
-use Rattle.forms.specs.Table.{value}
+use Rattle.forms.specs.Answer.{value}
 use Rattle.forms.proofs.Facts.{is, isnt, under}
 use Rattle.forms.proofs.Choices.{exactly, such}
 use Rattle.memory_decoder.specs.declared.LoadInstr.{LoadInstr}
@@ -29,7 +19,7 @@ use Rattle.memory_decoder.specs.Funct3.{funct3Of}
 use Rattle.memory_decoder.specs.Load.{meaning, mk}
 use Rattle.memory_encoder.specs.LoadStore.{encodeLoadDef, operands}
 use Rattle.memory_encoder.proofs.Funct3.{size-lt, funct3-lt}
-use Rattle.memory_encoder.proofs.Writing.{load-line, anything, low, past, is-low, is-past, nine, six, putCode, put-long, loaded}
+use Rattle.memory_encoder.proofs.Writing.{load-layout, anything, low, past, is-low, is-past, nine, six, putCode, put-long, loaded}
 use Rattle.memory_encoder.proofs.encode_load.Statement.{statement}
 use Rattle.memory_encoder.proofs.encode_load.Tie as tie
 
@@ -39,12 +29,12 @@ no-registers i e =
     six (i .rd .0) (i .rs1 .0) e
     ∙ sym
     (not-valid {X = writeOf loads meaning i ≡ Refused (unwritten (i .rd .0) (i .rs1 .0))} (i .rd .0) (i .rs1 .0) e
-    (λ h. load-line past anything anything anything i (is-past _ h) tt tt tt refl) (λ h. load-line anything past anything anything i tt (is-past _ h) tt tt refl))
+    (λ h. load-layout past anything anything anything i (is-past _ h) tt tt tt refl) (λ h. load-layout anything past anything anything i tt (is-past _ h) tt tt refl))
 
 -- a compressed load: none is unsigned
 module _ (i : LoadInstr) (short : i .«is_compressed» ≡ true) where
   no-unsigned : areValid (i .rd .0) (i .rs1 .0) ≡ true → i .«is_unsigned» ≡ true → Refused 9 ≡ writeOf loads meaning i
-  no-unsigned v u = nine (i .rd .0) (i .rs1 .0) v ∙ sym (load-line anything anything (such (is 2 1 0b1 ∷ [])) (exactly 1) i tt tt (sign, tt) (ap bitOf short) refl)
+  no-unsigned v u = nine (i .rd .0) (i .rs1 .0) v ∙ sym (load-layout anything anything (such (is 2 1 0b1 ∷ [])) (exactly 1) i tt tt (sign, tt) (ap bitOf short) refl)
     where
       sign : funct3Of (i .len) (i .«is_unsigned») / 2 ^ 2 % 2 ^ 1 ≡ 1
       sign = ap (λ (b : Bool). funct3Of (i .len) b / 2 ^ 2 % 2 ^ 1) u ∙ (let h = size-lt (i .len) in omega arith)
@@ -58,15 +48,15 @@ module _ (i : LoadInstr) (short : i .«is_compressed» ≡ true) where
 -- a load of 32 bits; f is its funct3
 module _ (i : LoadInstr) (long : i .«is_compressed» ≡ false) (v : areValid (i .rd .0) (i .rs1 .0) ≡ true) (f : ℕ) (e : f ≡ funct3Of (i .len) (i .«is_unsigned»)) where
   unsigned-double : f ≡ 7 → Refused 9 ≡ writeOf loads meaning i
-  unsigned-double h = nine (i .rd .0) (i .rs1 .0) v ∙ sym (load-line anything anything (exactly 7) (exactly 0) i tt tt (sym e ∙ h) (ap bitOf long) refl)
+  unsigned-double h = nine (i .rd .0) (i .rs1 .0) v ∙ sym (load-layout anything anything (exactly 7) (exactly 0) i tt tt (sym e ∙ h) (ap bitOf long) refl)
 
   module _ (not-seven : f ≡ 7 → ⊥) where
-    the-line : writeAs meaning i (value load) ≡ writeOf loads meaning i
-    the-line =
+    the-layout : writeAs meaning i (value load) ≡ writeOf loads meaning i
+    the-layout =
         let t = funct3-lt (i .len) (i .«is_unsigned») in
         let r = valid (i .rd .0) (i .rs1 .0) v in
         sym
-        (load-line low low (such (isnt 0 3 0b111 ∷ under 3 ∷ [])) (exactly 0) i (is-low _ (r .0)) (is-low _ (r .1))
+        (load-layout low low (such (isnt 0 3 0b111 ∷ under 3 ∷ [])) (exactly 0) i (is-low _ (r .0)) (is-low _ (r .1))
         (λ q. not-seven (e ∙ sym (mod-eq-of-lt t) ∙ q), (t, tt)) (ap bitOf long) refl)
 
     -- c is what `code_of` found, k the arm, r its answer
@@ -74,7 +64,7 @@ module _ (i : LoadInstr) (long : i .«is_compressed» ≡ false) (v : areValid (
         → r ≡ putCode (λ n. build load (operands (i .rd .0) (i .rs1 .0) f n)) k → r ≡ writeOf loads meaning i
     by-code fits d q p =
         put-long load (λ n. build load (operands (i .rd .0) (i .rs1 .0) f n)) (i .imm) fits q p (λ n. refl) d
-        ∙ ap (λ (g : ℕ). put (within load (codeDef 2048 (i .imm))) (build load (operands (i .rd .0) (i .rs1 .0) g (twos 2048 (i .imm))))) e ∙ the-line
+        ∙ ap (λ (g : ℕ). put (within load (codeDef 2048 (i .imm))) (build load (operands (i .rd .0) (i .rs1 .0) g (twos 2048 (i .imm))))) e ∙ the-layout
 
 pub encode-load-spec : {M : Type 1} → statement M
 unfolding encodeLoadDef
@@ -105,10 +95,7 @@ encode-load-spec =
     let regs = long .before in
     let call = regs .before in
     unsigned-double (call .before .before .args .load) (long .if2 .left) (sym (call .are-valid .ensures) ∙ not-false _ (regs .if1 .left)) _ (funct .load-func3 .ensures) (c .if4 .taken))
-    (λ c κs. search needs)
-    (λ c. search needs)
-    (λ c κs. search needs)
-    (λ c. search needs)
+    (λ c κs. search needs) (λ c. search needs) (λ c κs. search needs) (λ c. search needs)
     (λ c.
     let arm = c .before .before in
     let found = arm .before .before in

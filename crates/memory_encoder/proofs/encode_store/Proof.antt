@@ -1,24 +1,14 @@
--- `memory_encoder::encode_store` meets its contract: the tests choose the line or the refusal, and the immediate is tested by the line. Assumes nothing.
-use mathlib.Core.Path.{_≡_, refl, sym, ap, _∙_}
-use mathlib.Core.Bool.{true, false}
-use mathlib.Core.List.{[], _∷_}
-use Prim.Native.Nat.{ℕ}
-use native.Mathlib.Omega.{arith}
-use borrow.Author.Needs.{needs}
-use borrow.Author.Tests.{not-true, not-false}
-use lib.IntN.{ℤ}
-use mir.Syntax.{w64}
-use mir.Val.{SFits, toZ, ofZ}
-use mir.ValLaws.{toZ-ofZ}
+-- `memory_encoder::encode_store` meets its contract: the tests choose the form or the refusal, and the immediate is tested by the form. Assumes nothing.
+use Rattle.utils.proofs.Prelude.{_≡_, refl, sym, ap, _∙_, true, false, [], _∷_, ℕ, arith, ℤ, w64, SFits, toZ, ofZ, toZ-ofZ, needs, not-true}
+use borrow.Author.Tests.{not-false}
 use Rattle.utils.specs.Signed.{twos, codeDef}
 use Rattle.utils.specs.declared.Code.{Code}
 use Rattle.registers.specs.Numbers.{areValid}
 use Rattle.registers.proofs.Numbers.{valid, not-valid}
-use Rattle.forms.specs.declared.Wrote.{Wrote}
-use Rattle.forms.specs.declared.Wrote.the-variants.{Word, Refused}
+use Rattle.forms.specs.declared.Wrote.{Wrote, the-variants.Word, the-variants.Refused}
 use Rattle.forms.specs.Layout.{build}
 use Rattle.forms.specs.Meaning.{bitOf, within, put, writeOf, writeAs}
-use Rattle.forms.specs.Table.{value}
+use Rattle.forms.specs.Answer.{value}
 use Rattle.forms.proofs.Facts.{under}
 use Rattle.forms.proofs.Choices.{exactly, such}
 use Rattle.memory_decoder.specs.declared.StoreInstr.{StoreInstr}
@@ -28,7 +18,7 @@ use Rattle.memory_decoder.specs.Funct3.{sizeOf}
 use Rattle.memory_decoder.specs.Store.{meaning, mk}
 use Rattle.memory_encoder.specs.LoadStore.{encodeStoreDef, operands}
 use Rattle.memory_encoder.proofs.Funct3.{size-lt}
-use Rattle.memory_encoder.proofs.Writing.{store-line, anything, low, past, is-low, is-past, six, putCode, put-long, stored}
+use Rattle.memory_encoder.proofs.Writing.{store-layout, anything, low, past, is-low, is-past, six, putCode, put-long, stored}
 use Rattle.memory_encoder.proofs.encode_store.Statement.{statement}
 use Rattle.memory_encoder.proofs.encode_store.Tie as tie
 
@@ -38,7 +28,7 @@ no-registers i e =
     six (i .rs2 .0) (i .rs1 .0) e
     ∙ sym
     (not-valid {X = writeOf stores meaning i ≡ Refused (unwritten (i .rs2 .0) (i .rs1 .0))} (i .rs2 .0) (i .rs1 .0) e
-    (λ h. store-line past anything anything anything i (is-past _ h) tt tt tt refl) (λ h. store-line anything past anything anything i tt (is-past _ h) tt tt refl))
+    (λ h. store-layout past anything anything anything i (is-past _ h) tt tt tt refl) (λ h. store-layout anything past anything anything i tt (is-past _ h) tt tt refl))
 
 -- a compressed store
 by-short : (i : StoreInstr) → i .«is_compressed» ≡ true → SFits w64 (i .imm) → {r : Wrote}
@@ -48,17 +38,17 @@ by-short i short fits e =
 
 -- a store of 32 bits; f is its funct3
 module _ (i : StoreInstr) (long : i .«is_compressed» ≡ false) (v : areValid (i .rs2 .0) (i .rs1 .0) ≡ true) (f : ℕ) (e : f ≡ sizeOf (i .len)) where
-  the-line : writeAs meaning i (value store) ≡ writeOf stores meaning i
-  the-line =
+  the-layout : writeAs meaning i (value store) ≡ writeOf stores meaning i
+  the-layout =
       let r = valid (i .rs2 .0) (i .rs1 .0) v in
-      sym (store-line low low (such (under 2 ∷ [])) (exactly 0) i (is-low _ (r .0)) (is-low _ (r .1)) (size-lt (i .len), tt) (ap bitOf long) refl)
+      sym (store-layout low low (such (under 2 ∷ [])) (exactly 0) i (is-low _ (r .0)) (is-low _ (r .1)) (size-lt (i .len), tt) (ap bitOf long) refl)
 
   -- c is what `code_of` found, k the arm, r its answer
   by-code : SFits w64 (i .imm) → {c k : Code} {r : Wrote} → c ≡ codeDef 2048 (toZ w64 (ofZ w64 (i .imm))) → c ≡ k
       → r ≡ putCode (λ n. build store (operands (i .rs2 .0) (i .rs1 .0) f n)) k → r ≡ writeOf stores meaning i
   by-code fits d q p =
       put-long store (λ n. build store (operands (i .rs2 .0) (i .rs1 .0) f n)) (i .imm) fits q p (λ n. refl) d
-      ∙ ap (λ (g : ℕ). put (within store (codeDef 2048 (i .imm))) (build store (operands (i .rs2 .0) (i .rs1 .0) g (twos 2048 (i .imm))))) e ∙ the-line
+      ∙ ap (λ (g : ℕ). put (within store (codeDef 2048 (i .imm))) (build store (operands (i .rs2 .0) (i .rs1 .0) g (twos 2048 (i .imm))))) e ∙ the-layout
 
 pub encode-store-spec : {M : Type 1} → statement M
 unfolding encodeStoreDef
@@ -76,11 +66,7 @@ encode-store-spec =
     let short = c .before in
     let told = short .before .before .before in
     by-short (told .before .args .store) (short .if2 .taken) (record { sfits = told .struct-told .given .1 .1 .0 .1 }) (c .encode-compressed .ensures .as-store refl))
-    (λ c κs. search needs)
-    (λ c κs. search needs)
-    (λ c. search needs)
-    (λ c κs. search needs)
-    (λ c. search needs)
+    (λ c κs. search needs) (λ c κs. search needs) (λ c. search needs) (λ c κs. search needs) (λ c. search needs)
     (λ c.
     let arm = c .before .before in
     let found = arm .before .before in

@@ -1,6 +1,5 @@
 -- `memory_encoder::load_func3` meets its contract: bit 2 is the sign, below it is the width. Assumes nothing.
-use native.Mathlib.Omega.{arith}
-use borrow.Author.Needs.{needs}
+use Rattle.utils.proofs.Prelude.{arith, needs}
 use Rattle.memory_encoder.proofs.Funct3.{size-lt}
 use Rattle.memory_encoder.proofs.load_func3.Statement.{statement}
 use Rattle.memory_encoder.proofs.load_func3.Tie as tie

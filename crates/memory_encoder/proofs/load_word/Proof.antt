@@ -1,5 +1,5 @@
--- `memory_encoder::load_word` meets its contract: what it puts together is the word of the 32-bit load's line. Assumes nothing.
-use mathlib.Core.Path.{refl}
+-- `memory_encoder::load_word` meets its contract: what it puts together is the word of the 32-bit load's form. Assumes nothing.
+use Rattle.utils.proofs.Prelude.{refl}
 use Rattle.forms.proofs.Shifts.{put-together}
 use Rattle.memory_decoder.specs.Forms.{load}
 use Rattle.memory_encoder.specs.LoadStore.{operands}

@@ -1,12 +1,5 @@
 -- `memory_encoder::offset` meets its contract: each arm shows it of the code that was found. Assumes nothing.
-use mathlib.Core.Path.{_≡_, refl, sym, ap, _∙_}
-use Prim.Native.Nat.{ℕ}
-use borrow.Author.Needs.{needs}
-use borrow.Author.Tests.{eq-eqb, ne-eqb, lt-ltb, le-ltb}
-use lib.IntN.{ℤ}
-use mir.Syntax.{w64}
-use mir.Val.{SFits, toZ, ofZ}
-use mir.ValLaws.{toZ-ofZ}
+use Rattle.utils.proofs.Prelude.{_≡_, refl, sym, ap, _∙_, ℕ, ℤ, w64, SFits, toZ, ofZ, toZ-ofZ, needs, eq-eqb, ne-eqb, lt-ltb, le-ltb}
 use Rattle.utils.specs.Signed.{codeDef}
 use Rattle.utils.specs.declared.Code.{Code}
 use Rattle.memory_encoder.specs.LoadStore.{stepped}
@@ -21,10 +14,7 @@ pub offset-spec : {M : Type 1} → statement M
 offset-spec =
     tie.close
     (tie.spec
-    (λ c κs. search needs)
-    (λ c. search needs)
-    (λ c. search needs)
-    (λ c. search needs)
+    (λ c κs. search needs) (λ c. search needs) (λ c. search needs) (λ c. search needs)
     (λ c.
     let arm = c .before .before in
     let o = arm .before .before in

@@ -1,5 +1,5 @@
 -- `registers::are_valid` meets its contract. Assumes nothing.
-use borrow.Author.Tests.{le-leb, lt-leb}
+use Rattle.utils.proofs.Prelude.{le-leb, lt-leb}
 use Rattle.registers.proofs.are_valid.Statement.{statement}
 use Rattle.registers.proofs.are_valid.Tie as tie
 

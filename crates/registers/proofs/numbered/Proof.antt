@@ -1,6 +1,5 @@
 -- `registers::numbered` meets its contract. Assumes nothing.
-use borrow.Author.Needs.{needs}
-use borrow.Author.Tests.{le-leb, lt-leb}
+use Rattle.utils.proofs.Prelude.{needs, le-leb, lt-leb}
 use Rattle.registers.proofs.numbered.Statement.{statement}
 use Rattle.registers.proofs.numbered.Tie as tie
 

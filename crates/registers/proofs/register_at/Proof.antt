@@ -1,9 +1,5 @@
 -- `registers::register_at` meets its contract: the mask leaves five bits, and past 64 bits there are none. Assumes nothing.
-use mathlib.Core.Path.{_≡_, sym, ap, _∙_}
-use Prim.Native.Nat.{ℕ, _/_, _%_, _^_}
-use native.Mathlib.Nat.{mod-eq-of-lt}
-use lib.Bits.{bitAnd}
-use borrow.Author.Needs.{needs}
+use Rattle.utils.proofs.Prelude.{_≡_, sym, ap, _∙_, ℕ, _/_, _%_, _^_, mod-eq-of-lt, bitAnd, needs}
 use Rattle.utils.specs.Field.{fld}
 use Rattle.utils.proofs.Bits.{mask-field}
 use Rattle.utils.proofs.Digits.{fld-lt, fld-past}
@@ -20,6 +16,5 @@ register-at-spec =
     tie.close
     (tie.spec
     (λ c. ap (λ (n : ℕ). record { 0 = n }) (sym (fld-past 64 (c .before .args .raw) (c .before .args .k) 5 (c .before .fits .raw .fits) (c .if1 .taken))))
-    (λ c. search needs)
-    (λ c κs. search needs)
+    (λ c. search needs) (λ c κs. search needs)
     (λ c. five (c .before .before .args .raw) (c .before .before .args .k) (c .from .ensures)))

@@ -1,7 +1,5 @@
 -- `system_decoder::decode_csr_access` meets its contract: each exit knows the test and the look-up. Assumes nothing.
-use mathlib.Core.Path.{_≡_, refl, sym, ap, _∙_}
-use mathlib.Core.Bool.{Bool, cond}
-use borrow.Author.Needs.{needs}
+use Rattle.utils.proofs.Prelude.{_≡_, refl, sym, ap, _∙_, Bool, cond, needs}
 use Rattle.csrs.specs.declared.CsrLookup.{CsrLookup}
 use Rattle.csrs.specs.Gates.{decodeCsrDef}
 use Rattle.system_decoder.specs.declared.IllegalRead.the-variants.{Inst, InvalidCsrOp}
@@ -29,12 +27,9 @@ pub decode-csr-access-spec : {M : Type 1} → statement M
 decode-csr-access-spec =
     tie.close
     (tie.spec
-    (λ c κs. search needs)
-    (λ c κs. search needs)
+    (λ c κs. search needs) (λ c κs. search needs)
     (λ c. answer (c .before) (c .if1 .taken) refl)
-    (λ c κs. search needs)
-    (λ c. search needs)
-    (λ c. search needs)
+    (λ c κs. search needs) (λ c. search needs) (λ c. search needs)
     (λ c.
     let l = c .before .before in
     answer (l .before .before) (l .before .if1 .left) (sym (c .enum-told .given .1) ∙ l .decode-csr .ensures))

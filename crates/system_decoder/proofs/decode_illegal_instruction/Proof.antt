@@ -1,6 +1,5 @@
 -- `system_decoder::decode_illegal_instruction` meets its contract: each arm knows the shape. Assumes nothing.
-use mathlib.Core.Path.{sym, ap, _∙_}
-use borrow.Author.Needs.{needs}
+use Rattle.utils.proofs.Prelude.{sym, ap, _∙_, needs}
 use Rattle.system_decoder.specs.System.{shapeIn, readShape, illegalDef}
 use Rattle.system_decoder.specs.declared.Shaped.{Shaped}
 use Rattle.system_decoder.proofs.decode_illegal_instruction.Statement.{statement}
@@ -11,10 +10,7 @@ unfolding illegalDef
 decode-illegal-instruction-spec =
     tie.close
     (tie.spec
-    (λ c κs. search needs)
-    (λ c. search needs)
-    (λ c κs. search needs)
-    (λ c. search needs)
+    (λ c κs. search needs) (λ c. search needs) (λ c κs. search needs) (λ c. search needs)
     (λ c.
     let s = c .before .before .before .before in
     let p = s .before .args .ctx in

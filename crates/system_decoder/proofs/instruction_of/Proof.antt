@@ -1,6 +1,5 @@
 -- `system_decoder::instruction_of` meets its contract: each arm knows the shape. Assumes nothing.
-use mathlib.Core.Path.{sym, ap, _∙_}
-use borrow.Author.Needs.{needs}
+use Rattle.utils.proofs.Prelude.{sym, ap, _∙_, needs}
 use Rattle.system_decoder.specs.declared.IllegalRead.the-variants.{Inst}
 use Rattle.system_decoder.specs.System.{instAt}
 use Rattle.system_decoder.proofs.instruction_of.Statement.{statement}
@@ -10,13 +9,8 @@ pub instruction-of-spec : {M : Type 1} → statement M
 instruction-of-spec =
     tie.close
     (tie.spec
-    (λ c. search needs)
-    (λ c. search needs)
-    (λ c. search needs)
-    (λ c. search needs)
-    (λ c κs. search needs)
-    (λ c. search needs)
-    (λ c κs. search needs)
+    (λ c. search needs) (λ c. search needs) (λ c. search needs) (λ c. search needs) (λ c κs. search needs)
+    (λ c. search needs) (λ c κs. search needs)
     (λ c. c .decode-csr-access .ensures ∙ ap (instAt (c .before .before .before .before .args .ctx)) (sym (c .before .before .shape2 .given .1)))
     (λ c. ap (instAt (c .before .before .args .ctx)) (sym (c .enum-told .given .1)))
     (λ c. ap (instAt (c .before .before .args .ctx)) (sym (c .enum-told2 .given .1)))

@@ -1,5 +1,5 @@
 -- `system_decoder::is_barred` meets its contract: `&&` and `||` are the definition's. Assumes nothing.
-use borrow.Author.Needs.{needs}
+use Rattle.utils.proofs.Prelude.{needs}
 use Rattle.system_decoder.proofs.is_barred.Statement.{statement}
 use Rattle.system_decoder.proofs.is_barred.Tie as tie
 

@@ -1,8 +1,5 @@
 -- `system_decoder::is_legal` meets its contract: each arm knows the shape. Assumes nothing.
-use mathlib.Core.Path.{_≡_, sym, ap, _∙_}
-use mathlib.Core.Bool.{Bool, _&&_, not}
-use Prim.Native.Nat.{ℕ}
-use borrow.Author.Needs.{needs}
+use Rattle.utils.proofs.Prelude.{_≡_, sym, ap, _∙_, Bool, _&&_, not, ℕ, needs}
 use Rattle.csrs.specs.Gates.{available}
 use Rattle.system_decoder.specs.System.{barredDef, legalDef}
 use Rattle.system_decoder.proofs.is_legal.Statement.{statement}
@@ -26,17 +23,8 @@ pub is-legal-spec : {M : Type 1} → statement M
 is-legal-spec =
     tie.close
     (tie.spec
-    (λ c. search needs)
-    (λ c. search needs)
-    (λ c. search needs)
-    (λ c. search needs)
-    (λ c. search needs)
-    (λ c κs. search needs)
-    (λ c κs. search needs)
-    (λ c κs. search needs)
-    (λ c. search needs)
-    (λ c. search needs)
-    (λ c. search needs)
-    (λ c. search needs)
+    (λ c. search needs) (λ c. search needs) (λ c. search needs) (λ c. search needs) (λ c. search needs)
+    (λ c κs. search needs) (λ c κs. search needs) (λ c κs. search needs) (λ c. search needs) (λ c. search needs)
+    (λ c. search needs) (λ c. search needs)
     (λ c. c .is-available .ensures ∙ answer (c .before .before) (c .before .if1 .taken))
     (λ c. c .if1 .left ∙ answer (c .before) (c .if1 .left)))

@@ -1,6 +1,5 @@
 -- `system_decoder::shape_at` meets its contract: each exit by the step that its tests allow. Assumes nothing.
-use mathlib.Core.Path.{sym, ap, _∙_}
-use borrow.Author.Needs.{needs}
+use Rattle.utils.proofs.Prelude.{sym, ap, _∙_, needs}
 use Rattle.system_decoder.specs.declared.Fence.the-variants.{Vma, Vvma, Gvma}
 use Rattle.system_decoder.specs.System.{shapeAt}
 use Rattle.system_decoder.proofs.SystemSteps.{opcode, foreign, fenced, other}

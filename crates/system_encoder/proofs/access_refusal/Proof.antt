@@ -1,5 +1,5 @@
 -- `system_encoder::access_refusal` meets its contract: each exit by the step that its tests allow. Assumes nothing.
-use borrow.Author.Needs.{needs}
+use Rattle.utils.proofs.Prelude.{needs}
 use Rattle.system_encoder.proofs.SystemSteps.{past-31, unavailable, barring}
 use Rattle.system_encoder.proofs.access_refusal.Statement.{statement}
 use Rattle.system_encoder.proofs.access_refusal.Tie as tie
@@ -13,16 +13,13 @@ access-refusal-spec =
     let v = c .before in
     let a = v .before .args in
     past-31 (a .ctx) (a .op) (a .csr) (a .rd) (a .src) (v .are-valid .ensures) (c .if1 .taken))
-    (λ c κs. search needs)
-    (λ c. search needs)
-    (λ c. search needs)
+    (λ c κs. search needs) (λ c. search needs) (λ c. search needs)
     (λ c.
     let k = c .before .before in
     let v = k .before .before in
     let a = v .before .args in
     unavailable (a .ctx) (a .op) (a .csr) (a .rd) (a .src) (v .are-valid .ensures) (k .before .if1 .left) (k .decode-csr .ensures) (c .enum-told2 .given .1))
-    (λ c κs. search needs)
-    (λ c κs. search needs)
+    (λ c κs. search needs) (λ c κs. search needs)
     (λ c.
     let b = c .before in
     let t = b .before .before in

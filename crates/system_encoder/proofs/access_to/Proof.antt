@@ -1,6 +1,5 @@
 -- `system_encoder::access_to` meets its contract: each arm knows what `idx` gave. Assumes nothing.
-use mathlib.Core.Path.{sym, ap, _∙_}
-use borrow.Author.Needs.{needs}
+use Rattle.utils.proofs.Prelude.{sym, ap, _∙_, needs}
 use Rattle.registers.specs.declared.Idx.{Idx}
 use Rattle.system_decoder.specs.declared.Shape.the-variants.{Access as access}
 use Rattle.system_encoder.specs.System.{placeOf}
@@ -11,9 +10,7 @@ pub access-to-spec : {M : Type 1} → statement M
 access-to-spec =
     tie.close
     (tie.spec
-    (λ c κs. search needs)
-    (λ c. search needs)
-    (λ c. search needs)
+    (λ c κs. search needs) (λ c. search needs) (λ c. search needs)
     (λ c.
     let i = c .before .before .before in
     let a = i .before .args in

@@ -1,5 +1,5 @@
 -- `system_encoder::csr_func3` meets its contract: each arm knows the operation and the variant. Assumes nothing.
-use borrow.Author.Needs.{needs}
+use Rattle.utils.proofs.Prelude.{needs}
 use Rattle.system_encoder.proofs.csr_func3.Statement.{statement}
 use Rattle.system_encoder.proofs.csr_func3.Tie as tie
 
@@ -7,9 +7,7 @@ pub csr-func3-spec : {M : Type 1} → statement M
 csr-func3-spec =
     tie.close
     (tie.spec
-    (λ c. search needs)
-    (λ c. search needs)
-    (λ c. search needs)
+    (λ c. search needs) (λ c. search needs) (λ c. search needs)
     (λ c. simp (c .before .enum-told .given .1, c .if1 .taken))
     (λ c. simp (c .before .enum-told .given .1, c .if1 .left))
     (λ c. simp (c .before .enum-told2 .given .1, c .if2 .taken))

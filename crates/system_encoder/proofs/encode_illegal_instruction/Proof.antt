@@ -1,6 +1,5 @@
 -- `system_encoder::encode_illegal_instruction` meets its contract: the instruction's own shape is written. Assumes nothing.
-use mathlib.Core.Path.{ap, _∙_}
-use borrow.Author.Needs.{needs}
+use Rattle.utils.proofs.Prelude.{ap, _∙_, needs}
 use Rattle.system_decoder.specs.declared.Shape.{Shape}
 use Rattle.system_encoder.specs.System.{checkedDef, writeShape, encodeIllegalDef}
 use Rattle.system_encoder.proofs.encode_illegal_instruction.Statement.{statement}
@@ -11,6 +10,5 @@ unfolding encodeIllegalDef
 encode-illegal-instruction-spec =
     tie.close
     (tie.spec
-    (λ c κs. search needs)
-    (λ c κs. search needs)
+    (λ c κs. search needs) (λ c κs. search needs)
     (λ c. c .encode-shape .ensures ∙ ap (λ (s : Shape). writeShape (checkedDef (c .before .before .args .ctx) s)) (c .before .own-shape .ensures)))

@@ -1,7 +1,6 @@
 -- `system_encoder::encode_shape` meets its contract: what is not refused is low, and has a word. Assumes nothing.
-use mathlib.Core.Path.{sym, ap, _∙_}
-use borrow.Author.Needs.{needs}
-use Rattle.forms.proofs.Table.{refused-with}
+use Rattle.utils.proofs.Prelude.{sym, ap, _∙_, needs}
+use Rattle.forms.proofs.Answer.{refused-with}
 use Rattle.system_encoder.specs.System.{checkedDef, writeShape}
 use Rattle.system_encoder.proofs.System.{not-refused}
 use Rattle.system_encoder.proofs.encode_shape.Statement.{statement}

@@ -1,6 +1,5 @@
 -- `system_encoder::own_shape` meets its contract: each arm knows the instruction. Assumes nothing.
-use mathlib.Core.Path.{sym, ap, _∙_}
-use borrow.Author.Needs.{needs}
+use Rattle.utils.proofs.Prelude.{sym, ap, _∙_, needs}
 use Rattle.system_encoder.specs.System.{ownShape}
 use Rattle.system_encoder.proofs.own_shape.Statement.{statement}
 use Rattle.system_encoder.proofs.own_shape.Tie as tie
@@ -9,26 +8,10 @@ pub own-shape-spec : {M : Type 1} → statement M
 own-shape-spec =
     tie.close
     (tie.spec
-    (λ c. search needs)
-    (λ c. search needs)
-    (λ c κs. search needs)
-    (λ c. search needs)
-    (λ c κs. search needs)
-    (λ c. search needs)
-    (λ c κs. search needs)
-    (λ c. search needs)
-    (λ c κs. search needs)
-    (λ c. search needs)
-    (λ c κs. search needs)
-    (λ c. search needs)
-    (λ c κs. search needs)
-    (λ c. search needs)
-    (λ c. search needs)
-    (λ c. search needs)
-    (λ c κs. search needs)
-    (λ c. search needs)
-    (λ c κs. search needs)
-    (λ c. search needs)
+    (λ c. search needs) (λ c. search needs) (λ c κs. search needs) (λ c. search needs) (λ c κs. search needs)
+    (λ c. search needs) (λ c κs. search needs) (λ c. search needs) (λ c κs. search needs) (λ c. search needs)
+    (λ c κs. search needs) (λ c. search needs) (λ c κs. search needs) (λ c. search needs) (λ c. search needs)
+    (λ c. search needs) (λ c κs. search needs) (λ c. search needs) (λ c κs. search needs) (λ c. search needs)
     (λ c κs. search needs)
     (λ c. ap ownShape (sym (c .enum-told .given .1)))
     (λ c. c .access-to .ensures ∙ ap ownShape (sym (c .before .before .inst .given .1)))

@@ -1,9 +1,7 @@
 -- `system_encoder::refusal_of` meets its contract: each arm knows the shape. Assumes nothing.
-use mathlib.Core.Path.{_≡_, sym, ap, _∙_}
-use Prim.Native.Nat.{ℕ}
-use borrow.Author.Needs.{needs}
+use Rattle.utils.proofs.Prelude.{_≡_, sym, ap, _∙_, ℕ, needs}
 use Rattle.profiles.specs.declared.Profile.{Profile}
-use Rattle.forms.specs.Table.{numberIn}
+use Rattle.forms.specs.Answer.{numberIn}
 use Rattle.system_decoder.specs.declared.Shape.{Shape}
 use Rattle.system_encoder.specs.System.{checkedDef}
 use Rattle.system_encoder.proofs.refusal_of.Statement.{statement}
@@ -17,16 +15,8 @@ pub refusal-of-spec : {M : Type 1} → statement M
 refusal-of-spec =
     tie.close
     (tie.spec
-    (λ c. search needs)
-    (λ c. search needs)
-    (λ c. search needs)
-    (λ c. search needs)
-    (λ c κs. search needs)
-    (λ c. search needs)
-    (λ c κs. search needs)
-    (λ c. search needs)
-    (λ c. search needs)
-    (λ c. search needs)
+    (λ c. search needs) (λ c. search needs) (λ c. search needs) (λ c. search needs) (λ c κs. search needs)
+    (λ c. search needs) (λ c κs. search needs) (λ c. search needs) (λ c. search needs) (λ c. search needs)
     (λ c. rw (c .before .before .before .shape .given .1, sym (c .before .are-valid .ensures) ∙ c .if1 .taken))
     (λ c. rw (c .before .before .before .shape .given .1, sym (c .before .are-valid .ensures) ∙ c .if1 .left))
     (λ c.

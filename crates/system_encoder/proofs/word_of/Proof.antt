@@ -1,7 +1,5 @@
--- `system_encoder::word_of` meets its contract: each arm knows the shape, which is written by its line. Assumes nothing.
-use mathlib.Core.Path.{sym, ap, subst, _∙_}
-use Prim.Native.Nat.{ℕ}
-use borrow.Author.Needs.{needs}
+-- `system_encoder::word_of` meets its contract: each arm knows the shape, which is written by its form. Assumes nothing.
+use Rattle.utils.proofs.Prelude.{sym, ap, _∙_, subst, ℕ, needs}
 use Rattle.forms.specs.declared.Wrote.the-variants.{Word}
 use Rattle.forms.specs.Meaning.{writeOf}
 use Rattle.system_decoder.specs.Forms.{system}
@@ -14,13 +12,8 @@ pub word-of-spec : {M : Type 1} → statement M
 word-of-spec =
     tie.close
     (tie.spec
-    (λ c. search needs)
-    (λ c. search needs)
-    (λ c. search needs)
-    (λ c. search needs)
-    (λ c κs. search needs)
-    (λ c. search needs)
-    (λ c κs. search needs)
+    (λ c. search needs) (λ c. search needs) (λ c. search needs) (λ c. search needs) (λ c κs. search needs)
+    (λ c. search needs) (λ c κs. search needs)
     (λ c. ap (writeOf system meaning) (sym (c .enum-told .given .1)))
     (λ c. ap (writeOf system meaning) (sym (c .enum-told2 .given .1)))
     (λ c. ap (writeOf system meaning) (sym (c .enum-told3 .given .1)))

@@ -1,9 +1,6 @@
 -- `utils::bits_to_int` meets its contract: the branch is on the sign bit, and 64 bits have no field past them. Assumes nothing.
-use mathlib.Core.Path.{sym, ap, _∙_}
-use native.Mathlib.Omega.{arith}
-use mir.Syntax.{w64}
+use Rattle.utils.proofs.Prelude.{sym, ap, _∙_, arith, w64, needs}
 use mir.ValLaws.{toZ-pos}
-use borrow.Author.Needs.{needs}
 use Rattle.utils.specs.Field.{fld}
 use Rattle.utils.specs.Signed.{signed}
 use Rattle.utils.proofs.Digits.{fld-lt, fld-past}
@@ -16,9 +13,7 @@ bits-to-int-spec =
     tie.close
     (tie.spec
     (λ c. sym (ap (signed 2048) (fld-past 64 (c .before .args .raw) (c .before .args .start-bit) 12 (c .before .fits .raw .fits) (c .if1 .taken))))
-    (λ c. search needs)
-    (λ c. search needs)
-    (λ c. search needs)
+    (λ c. search needs) (λ c. search needs) (λ c. search needs)
     (λ c. full-fits 4095 (fld (c .before .before .args .raw) (c .before .before .args .start-bit) 12) (fld-lt (c .before .before .args .raw) (c .before .before .args .start-bit) 12) (omega arith))
     (λ c.
     let y = fld (c .before .before .args .raw) (c .before .before .args .start-bit) 12 in

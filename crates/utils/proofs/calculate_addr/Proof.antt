@@ -1,7 +1,5 @@
 -- `utils::calculate_addr` meets its contract: a sum that wraps is the sum modulo 2^64. Assumes nothing.
-use Prim.Native.Nat.{_+_, _%_, _^_}
-use lib.IntN.{ℤ}
-use borrow.Author.Needs.{needs}
+use Rattle.utils.proofs.Prelude.{_+_, _%_, _^_, ℤ, needs}
 use Rattle.utils.specs.Signed.{twos}
 use Rattle.utils.proofs.Signed.{taken-apart}
 use Rattle.utils.proofs.calculate_addr.Statement.{statement}
@@ -11,11 +9,7 @@ pub calculate-addr-spec : {M : Type 1} → statement M
 calculate-addr-spec =
     tie.close
     (tie.spec
-    (λ c κs. search needs)
-    (λ c. search needs)
-    (λ c κs. search needs)
-    (λ c. search needs)
-    (λ c. search needs)
+    (λ c κs. search needs) (λ c. search needs) (λ c κs. search needs) (λ c. search needs) (λ c. search needs)
     (λ c κs. search needs)
     (λ c.
     let s = c .before .before .before .before in

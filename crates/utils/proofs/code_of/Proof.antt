@@ -1,6 +1,5 @@
 -- `utils::code_of` meets its contract: each arm shows the code of the number that `sign_of` took apart. Assumes nothing.
-use borrow.Author.Needs.{needs}
-use borrow.Author.Tests.{lt-ltb, le-ltb}
+use Rattle.utils.proofs.Prelude.{needs, lt-ltb, le-ltb}
 use Rattle.utils.specs.Signed.{codeDef}
 use Rattle.utils.proofs.Signed.{taken-apart}
 use Rattle.utils.proofs.code_of.Statement.{statement}
@@ -10,11 +9,7 @@ pub code-of-spec : {M : Type 1} → statement M
 code-of-spec =
     tie.close
     (tie.spec
-    (λ c κs. search needs)
-    (λ c. search needs)
-    (λ c. search needs)
-    (λ c. search needs)
-    (λ c. search needs)
+    (λ c κs. search needs) (λ c. search needs) (λ c. search needs) (λ c. search needs) (λ c. search needs)
     (λ c. search needs)
     (λ c.
     let s = c .before .before .before .before in

@@ -1,7 +1,5 @@
 -- `utils::sign_extend` meets its contract: each width rests on `extend`, and 64 bits are their own extension. Assumes nothing.
-use mathlib.Core.Path.{_≡_, sym, ap, _∙_}
-use Prim.Native.Nat.{ℕ}
-use borrow.Author.Needs.{needs}
+use Rattle.utils.proofs.Prelude.{_≡_, sym, ap, _∙_, ℕ, needs}
 use Rattle.utils.specs.declared.Width.{Width}
 use Rattle.utils.specs.Width.{extended, halfOf}
 use Rattle.utils.proofs.Signed.{whole}
@@ -15,13 +13,8 @@ pub sign-extend-spec : {M : Type 1} → statement M
 sign-extend-spec =
     tie.close
     (tie.spec
-    (λ c. search needs)
-    (λ c κs. search needs)
-    (λ c. search needs)
-    (λ c κs. search needs)
-    (λ c. search needs)
-    (λ c κs. search needs)
-    (λ c. search needs)
+    (λ c. search needs) (λ c κs. search needs) (λ c. search needs) (λ c κs. search needs) (λ c. search needs)
+    (λ c κs. search needs) (λ c. search needs)
     (λ c. at-width (c .before .before .before .args .value) (c .extend .ensures) (c .before .enum-told .given .1))
     (λ c. at-width (c .before .before .before .args .value) (c .extend2 .ensures) (c .before .enum-told2 .given .1))
     (λ c. at-width (c .before .before .before .args .value) (c .extend3 .ensures) (c .before .enum-told3 .given .1))

@@ -1,5 +1,5 @@
 -- `vectors::readings` is safe and ends: the turns are counted down. Assumes nothing.
-use borrow.Author.Needs.{needs}
+use Rattle.utils.proofs.Prelude.{needs}
 use Rattle.vectors.proofs.readings.Statement.{statement}
 use Rattle.vectors.proofs.readings.Tie as tie
 
@@ -15,10 +15,5 @@ readings-spec =
     (tie.spec
     Inv-loop
     μ-loop
-    (λ c. search needs)
-    (λ c. search needs)
-    (λ c κs. search needs)
-    (λ c. search needs)
-    (λ c. search needs)
-    (λ c. search needs)
-    (λ c. search needs))
+    (λ c. search needs) (λ c. search needs) (λ c κs. search needs) (λ c. search needs) (λ c. search needs)
+    (λ c. search needs) (λ c. search needs))

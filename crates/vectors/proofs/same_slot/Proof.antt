@@ -1,6 +1,5 @@
 -- `vectors::same_slot` is safe and ends. Assumes nothing.
-use Prim.Native.Nat.{_≤_, _-_}
-use borrow.Author.Needs.{needs}
+use Rattle.utils.proofs.Prelude.{_-_, _≤_, needs}
 use Rattle.vectors.proofs.same_slot.Statement.{statement}
 use Rattle.vectors.proofs.same_slot.Tie as tie
 
@@ -16,12 +15,5 @@ same-slot-spec =
     (tie.spec
     Inv-loop
     μ-loop
-    (λ c. search needs)
-    (λ c. search needs)
-    (λ c. search needs)
-    (λ c κs. search needs)
-    (λ c. search needs)
-    (λ c. search needs)
-    (λ c. search needs)
-    (λ c. search needs)
-    (λ c. search needs))
+    (λ c. search needs) (λ c. search needs) (λ c. search needs) (λ c κs. search needs) (λ c. search needs)
+    (λ c. search needs) (λ c. search needs) (λ c. search needs) (λ c. search needs))

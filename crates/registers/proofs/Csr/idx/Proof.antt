@@ -1,8 +1,5 @@
 -- `registers::Csr::idx` meets its contract: each arm knows the register, whose address computes. Assumes nothing.
-use mathlib.Core.Path.{_≡_, refl, sym, ap, _∙_}
-use Prim.Native.Nat.{_%_}
-use borrow.Author.Needs.{needs}
-use borrow.Author.Tests.{eq-eqb, ne-eqb, le-leb, lt-leb}
+use Rattle.utils.proofs.Prelude.{_≡_, refl, sym, ap, _∙_, _%_, needs, eq-eqb, ne-eqb, le-leb, lt-leb}
 use Rattle.registers.specs.declared.Csr.{Csr}
 use Rattle.registers.specs.declared.Idx.{Idx}
 use Rattle.registers.specs.Address.{idxDef}
@@ -27,20 +24,15 @@ idx-spec =
     (λ c. c .match .keys8)
     (λ c. c .match .keys9)
     (λ c. c .match .keys10)
-    (λ c. search needs)
-    (λ c κs. search needs)
-    (λ c. search needs)
-    (λ c κs. search needs)
+    (λ c. search needs) (λ c κs. search needs) (λ c. search needs) (λ c κs. search needs)
     (λ c. c .match .keys13)
     (λ c. c .match .keys14)
     (λ c. c .match .keys15)
     (λ c. c .match .keys16)
     (λ c. c .match .keys17)
-    (λ c. search needs)
-    (λ c κs. search needs)
+    (λ c. search needs) (λ c κs. search needs)
     (λ c. c .match .keys19)
-    (λ c. search needs)
-    (λ c κs. search needs)
+    (λ c. search needs) (λ c κs. search needs)
     (λ c. c .match .keys21)
     (λ c. c .match .keys22)
     (λ c. c .match .keys23)

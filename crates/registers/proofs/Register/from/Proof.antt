@@ -1,7 +1,5 @@
 -- `registers::Register::from` meets its contract: the mask keeps the low five bits. Assumes nothing.
-use mathlib.Core.Path.{ap}
-use Prim.Native.Nat.{ℕ}
-use lib.Bits.{and-mask}
+use Rattle.utils.proofs.Prelude.{ap, ℕ, and-mask}
 use Rattle.registers.specs.declared.Register.{Register}
 use Rattle.registers.proofs.Register.from.Statement.{statement}
 use Rattle.registers.proofs.Register.from.Tie as tie

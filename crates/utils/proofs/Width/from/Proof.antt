@@ -1,5 +1,5 @@
 -- `utils::Width::from` meets its contract. Assumes nothing.
-use borrow.Author.Tests.{ne-eqb}
+use Rattle.utils.proofs.Prelude.{ne-eqb}
 use Rattle.utils.proofs.Width.from.Statement.{statement}
 use Rattle.utils.proofs.Width.from.Tie as tie
 

@@ -1,29 +1,17 @@
 -- A sound table reads and writes without loss: no word and no operands have two layouts. Assumes nothing.
-use mathlib.Core.Path.{_≡_, refl, sym, ap, _∙_, subst}
-use mathlib.Core.Bool.{Bool, true, false, _&&_, _||_, not, cond, false≢true}
-use mathlib.Core.List.{List, [], _∷_}
-use Prim.Native.Nat.{ℕ, zero, suc, _+_, _-_, _/_, _%_, _^_, _<_}
+use Rattle.utils.proofs.Prelude.{_≡_, refl, sym, ap, _∙_, subst, Bool, true, false, _&&_, _||_, not, cond, false≢true, List, [], _∷_, ℕ, zero, suc, _+_, _-_, _/_, _%_, _^_, _<_, arith, eqb}
+use Rattle.utils.proofs.Prelude.{eqb-true, eqb-false, not-true}
 use native.Mathlib.Nat.{div-one}
-use native.Mathlib.Omega.{arith}
-use borrow.Author.Tests.{eqb-true, eqb-false, not-true}
-use lib.Dec.{eqb}
 use lib.Pow.{field, shr-shr, mod-mod-pow}
 use Rattle.forms.specs.Layout.{Layout, const, take, given, avoid, Operand, imm, others, all, bits, width, matches, build, read, spares, Piece, piece, from, lit, pieces, holds, readable, chosen, good}
-use Rattle.forms.specs.Table.{Answer, value, refusal, numberIn, first, any, Bit, bit, spread, ofWord, ofPieces, differs, clash, apart, distinct, sound}
+use Rattle.forms.specs.Answer.{Answer, value, refusal, numberIn}
+use Rattle.forms.specs.Sound.{first, any, Bit, bit, spread, ofWord, ofPieces, differs, clash, apart, distinct, sound}
 use Rattle.utils.proofs.Tests.{both, either, on}
+use Rattle.forms.proofs.Answer.{no-value}
 use Rattle.forms.proofs.Tests.{not-any}
 use Rattle.forms.proofs.Laws.{Held, holds-true, read-build, read-holds, build-lt, readable-chosen, chosen-back, chosen-readable}
 
--- ---- answers
--- a number other than 0 is a refusal's
-pub refused-with : {F : Type 0} (k : Answer F) {n : ℕ} → n ≡ numberIn k → (n ≡ 0 → ⊥) → k ≡ refusal n
-refused-with (value x) e h = absurd (h e)
-refused-with (refusal m) e h = ap refusal (sym e)
-
 -- ---- the first that passes
-pub no-value : {F X : Type 0} (n : ℕ) (f : F) → refusal n ≡ value f → X
-no-value n f q = let z : _≡_ {A = ℕ} 0 1 = cc in absurd (omega arith)
-
 pub same-value : (L M : Layout) → value L ≡ value M → L ≡ M
 same-value L M e = cc
 
@@ -161,6 +149,6 @@ module _ (T : List Layout) (ok : sound T ≡ true) where
         (chosen-back L g env v i, build-lt L g env),
       )
 
-  -- a line that reads a word reads every word of the line
-  pub same-line : (w v n m : ℕ) (L : Layout) → first (readable w) T n ≡ value L → readable v L ≡ true → first (readable v) T m ≡ value L
-  same-line w v n m L e r = first-too (readable w) (readable v) T n m L (λ M a q. readable-once v L M r a q) (sound-parts .1) e r
+  -- a form that reads a word reads every word of the form
+  pub same-layout : (w v n m : ℕ) (L : Layout) → first (readable w) T n ≡ value L → readable v L ≡ true → first (readable v) T m ≡ value L
+  same-layout w v n m L e r = first-too (readable w) (readable v) T n m L (λ M a q. readable-once v L M r a q) (sound-parts .1) e r

@@ -1,31 +1,23 @@
--- Which words are of which line of the SYSTEM table, by the fields that the lines fix. Assumes nothing.
-use mathlib.Core.Path.{_≡_, refl, sym, ap, _∙_, subst}
-use mathlib.Core.Bool.{Bool, true, false, _&&_, cond}
-use mathlib.Core.List.{List, [], _∷_, _++_}
-use Prim.Native.Nat.{ℕ, _+_, _*_, _/_, _%_, _^_, _<_}
-use native.Mathlib.Nat.{mod-eq-of-lt}
-use native.Mathlib.Omega.{arith}
-use borrow.Author.Tests.{eqb-true, eqb-false, lt-ltb, ltb-true}
-use lib.Dec.{eqb, ltb}
+-- Which words are of which form of the SYSTEM table, by the fields that the forms fix. Assumes nothing.
+use Rattle.utils.proofs.Prelude.{_≡_, refl, sym, ap, _∙_, subst, Bool, true, false, _&&_, cond, List, [], _∷_, _++_, ℕ, _+_, _*_, _/_, _%_, _^_, _<_, arith, eqb, ltb}
+use Rattle.utils.proofs.Prelude.{mod-eq-of-lt, eqb-true, eqb-false, lt-ltb, ltb-true}
 use Rattle.utils.specs.Field.{fld}
 use Rattle.utils.proofs.Digits.{halves}
 use Rattle.utils.proofs.Signed.{by-test}
 use Rattle.forms.specs.Layout.{Layout, all, width, matches, read, spares, readable, build, good}
-use Rattle.forms.specs.Table.{Answer, value, refusal, first}
+use Rattle.forms.specs.Answer.{Answer, value, refusal}
+use Rattle.forms.specs.Sound.{first}
 use Rattle.forms.specs.Meaning.{readAs, readOf, bitOf}
 use Rattle.utils.proofs.Tests.{both, on}
 use Rattle.forms.proofs.Laws.{read-build}
 use Rattle.forms.proofs.Facts.{Fact, is, isnt, Known, settles, fits, clears, by-facts}
 use Rattle.forms.proofs.Accepts.{fields-of, Unread, passed, unread}
 use Rattle.forms.proofs.Codes.{bit-one}
-use Rattle.system_decoder.specs.declared.CsrOp.{CsrOp}
-use Rattle.system_decoder.specs.declared.CsrOp.the-variants.{Write, Set, Clear}
-use Rattle.system_decoder.specs.declared.Fence.{Fence}
-use Rattle.system_decoder.specs.declared.Fence.the-variants.{Vma, Vvma, Gvma}
+use Rattle.system_decoder.specs.declared.CsrOp.{CsrOp, the-variants.Write, the-variants.Set, the-variants.Clear}
+use Rattle.system_decoder.specs.declared.Fence.{Fence, the-variants.Vma, the-variants.Vvma, the-variants.Gvma}
 use Rattle.system_decoder.specs.declared.IllegalRead.the-variants.{Unknown}
 use Rattle.system_decoder.specs.Forms.{funct7, nth, fenced, wfi, mret, sret, sfence-vma, hfence-vvma, hfence-gvma, accesses, system}
-use Rattle.system_decoder.specs.declared.Shape.{Shape}
-use Rattle.system_decoder.specs.declared.Shape.the-variants.{Fence as fence, Access as access}
+use Rattle.system_decoder.specs.declared.Shape.{Shape, the-variants.Fence as fence, the-variants.Access as access}
 use Rattle.system_decoder.specs.System.{numberOf, opCode, funct3, meaning, accessAt, shapeAt}
 
 -- what is known of a word, by a table of SYSTEM words
@@ -33,7 +25,7 @@ known : (T : List Layout) → all good T ≡ true → (w : ℕ) (fs : List Fact)
     → readOf T meaning w ≡ readAs meaning w (first (fits fs) T (numberOf Unknown))
 known T ok = by-facts T meaning ok [] (numberOf Unknown) (λ w. refl)
 
--- a line that reads a word has its bits
+-- a form that reads a word has its bits
 has : (w : ℕ) (L : Layout) → readable w L ≡ true → matches L w ≡ true
 has w L r = both (matches L w) (spares L (read L w)) r .0
 
@@ -89,13 +81,13 @@ unfit-other w o h = (
 pub unfit-csr : (w : ℕ) → (fld w 12 2 ≡ 0 → ⊥) → Unread w wholes
 unfit-csr w n = unread w (isnt 12 2 0b00 ∷ []) (n, tt) wholes refl
 
--- ---- a word that has the fields of a line is read by it
+-- ---- a word that has the fields of a form is read by it
 abbrev fenceFacts : ℕ → List Fact
 fenceFacts v = is 25 7 v ∷ is 12 3 0b000 ∷ is 7 5 0b00000 ∷ is 0 7 0x73 ∷ []
 
 pub at-fence : (w : ℕ) (f : Fence) → w % 2 ^ 7 ≡ 0x73 → FenceForm w (funct7 f) → shapeAt w ≡ value (fence f (fld w 15 5) (fld w 20 5))
 unfolding shapeAt
-at-fence w f e h = ap (λ (b : Bool). cond b (readOf system meaning w) (accessAt w)) (lt-ltb w (2 ^ 32) (small (funct7 f) (seven f) (h .above))) ∙ line f (h .above)
+at-fence w f e h = ap (λ (b : Bool). cond b (readOf system meaning w) (accessAt w)) (lt-ltb w (2 ^ 32) (small (funct7 f) (seven f) (h .above))) ∙ layout f (h .above)
   where
     small : (k : ℕ) → k < 2 ^ 7 → w / 2 ^ 25 ≡ k → w < 2 ^ 32
     small k l q = omega arith
@@ -111,10 +103,10 @@ at-fence w f e h = ap (λ (b : Bool). cond b (readOf system meaning w) (accessAt
     facts : (v : ℕ) → v < 2 ^ 7 → w / 2 ^ 25 ≡ v → Known w (fenceFacts v)
     facts v l q = let z = zeros (h .middle) in (ap (λ (x : ℕ). x % 2 ^ 7) q ∙ mod-eq-of-lt l, (z .0, (z .1, (e, tt))))
 
-    line : (f : Fence) → w / 2 ^ 25 ≡ funct7 f → readOf system meaning w ≡ value (fence f (fld w 15 5) (fld w 20 5))
-    line Vma q = known system refl w (fenceFacts (funct7 Vma)) (facts (funct7 Vma) (seven Vma) q) refl
-    line Vvma q = known system refl w (fenceFacts (funct7 Vvma)) (facts (funct7 Vvma) (seven Vvma) q) refl
-    line Gvma q = known system refl w (fenceFacts (funct7 Gvma)) (facts (funct7 Gvma) (seven Gvma) q) refl
+    layout : (f : Fence) → w / 2 ^ 25 ≡ funct7 f → readOf system meaning w ≡ value (fence f (fld w 15 5) (fld w 20 5))
+    layout Vma q = known system refl w (fenceFacts (funct7 Vma)) (facts (funct7 Vma) (seven Vma) q) refl
+    layout Vvma q = known system refl w (fenceFacts (funct7 Vvma)) (facts (funct7 Vvma) (seven Vvma) q) refl
+    layout Gvma q = known system refl w (fenceFacts (funct7 Gvma)) (facts (funct7 Gvma) (seven Gvma) q) refl
 
 -- ---- CSR forms
 pub at-access : (w : ℕ) (o : CsrOp) (m : Bool) → w % 2 ^ 7 ≡ 0x73 → fld w 12 3 ≡ funct3 o m → accessAt w ≡ value (access o m (fld w 20 12) (fld w 7 5) (fld w 15 5))
@@ -126,7 +118,7 @@ at-access w Write true e f = known accesses refl w (is 12 3 0b101 ∷ is 0 7 0x7
 at-access w Set true e f = known accesses refl w (is 12 3 0b110 ∷ is 0 7 0x73 ∷ []) (f, (e, tt)) refl
 at-access w Clear true e f = known accesses refl w (is 12 3 0b111 ∷ is 0 7 0x73 ∷ []) (f, (e, tt)) refl
 
--- ---- words of no line
+-- ---- words of no form
 pub at-foreign : (w : ℕ) → (w % 2 ^ 7 ≡ 0x73 → ⊥) → shapeAt w ≡ refusal (numberOf Unknown)
 unfolding shapeAt accessAt
 at-foreign w n =

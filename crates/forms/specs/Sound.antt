@@ -1,20 +1,11 @@
--- A table of layouts: a word is read, and operands are written, by the first layout that fits. The computed test `sound` says that each layout
--- is good, and that no word and no operands fit two of them, so that the order of the lines does not matter.
+-- A list of layouts: a word is read, and operands are written, by the first layout that fits. The computed test `sound` says that each layout
+-- is good, and that no word and no operands fit two of them, so that the order of the layouts does not matter.
 use Prim.Native.Nat.{ℕ, zero, suc, _+_}
 use mathlib.Core.Bool.{Bool, true, false, _&&_, _||_, not, cond}
 use mathlib.Core.List.{List, [], _∷_}
 use lib.Dec.{eqb}
+use Rattle.forms.specs.Answer.{Answer, value, refusal}
 use Rattle.forms.specs.Layout.{Layout, const, take, given, avoid, others, all, bits, width, good, Piece, piece, from, lit, pieces}
-
--- a value, or the number of a refusal
-pub data Answer (F : Type 0) : Type 0 where
-  value : F → Answer F
-  refusal : ℕ → Answer F
-
--- the refusal's number, 0 where there is none
-abbrev pub numberIn : {F : Type 0} → Answer F → ℕ
-numberIn (value x) = 0
-numberIn (refusal n) = n
 
 -- the first that passes, or n
 abbrev pub first : (Layout → Bool) → List Layout → ℕ → Answer Layout
