@@ -1,9 +1,10 @@
 -- The answer for two tables is one alone; and what its functions know of it. Assumes nothing.
 use Rattle.utils.proofs.Prelude.{_≡_, sym, ap, _∙_, subst, Bool, true, false, _&&_, List, ℕ, _*_, _^_, eqb, length, eq-eqb, ne-eqb}
-use Rattle.harts.specs.declared.Difference.{Difference}
+use Rattle.differences.specs.declared.Difference.{Difference}
 use Rattle.harts.specs.declared.Table.{Table}
-use Rattle.harts.specs.Table.{tableOf, FirstDifference}
-use Rattle.harts.proofs.Tables.{first-once}
+use Rattle.harts.specs.Table.{tableOf}
+use Rattle.differences.specs.Difference.{FirstDifference}
+use Rattle.differences.proofs.Once.{first-once}
 use Rattle.matnosoru_csrs.specs.Csrs.{place, Compared, TablesDiffer}
 
 -- the contract determines the answer

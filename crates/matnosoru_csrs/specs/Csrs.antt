@@ -8,9 +8,10 @@ use lib.ListN.{length}
 use Rattle.utils.specs.declared.WidthFrom.{WidthFrom}
 use Rattle.utils.specs.declared.WidthFrom.the-variants.{Is as IsWidth, Invalid}
 use Rattle.utils.specs.Width.{extended, halfOf}
-use Rattle.harts.specs.declared.Difference.{Difference}
-use Rattle.harts.specs.declared.Difference.the-variants.{At, Nowhere}
-use Rattle.harts.specs.Table.{tableOf, FirstDifference}
+use Rattle.differences.specs.declared.Difference.{Difference}
+use Rattle.differences.specs.declared.Difference.the-variants.{At, Nowhere}
+use Rattle.harts.specs.Table.{tableOf}
+use Rattle.differences.specs.Difference.{FirstDifference}
 
 -- ---- tables
 -- the first difference as hart * 4096 + address, 32768 for none

@@ -9,7 +9,7 @@ ghost use Rattle.csrs.specs.Count.{countDef};
 ghost use Rattle.abi.specs.Abi.{profile};
 ghost use Rattle.matnosoru_csrs.specs.Csrs.{TablesDiffer, extendedBy};
 use csrs::CsrLookup;
-use harts::Difference;
+use differences::Difference;
 use utils::Width;
 use utils::WidthFrom;
 
@@ -54,7 +54,7 @@ pub extern "C" fn matnosoru_tables_differ(a: &[u8], b: &[u8]) -> u64
     if b.len() != 80 {
         return refusals::refusal(refusals::OUTPUT_SHORT);
     }
-    match harts::first_difference(harts::table_of(a), harts::table_of(b)) {
+    match differences::first_difference(harts::table_of(a), harts::table_of(b)) {
         Difference::At { hart, csr } => place_of(hart, csr),
         Difference::Nowhere => 32768,
     }

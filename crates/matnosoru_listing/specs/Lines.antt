@@ -7,7 +7,7 @@ use Rattle.octets.specs.Bytes.{emitted, emittedOut}
 use Rattle.harts.specs.declared.ProfileAt.{ProfileAt}
 use Rattle.harts.specs.declared.ProfileAt.the-variants.{Is, Refused}
 use Rattle.log_reader.specs.Read.{parse}
-use Rattle.listing.specs.Listing.{badLine}
+use Rattle.log_lines.specs.Lines.{badLine}
 use Rattle.log_steps.specs.Lines.{lineDef, lineOut, lineState}
 use Rattle.abi.specs.Abi.{length-or}
 

@@ -6,7 +6,7 @@ ghost use Prim.Native.Nat.{_*_, _^_};
 ghost use lib.Dec.{eqb};
 ghost use lib.ListN.{length};
 ghost use Rattle.profiles.specs.Profile.{emptyProfile};
-ghost use Rattle.harts.specs.StateBytes.{startedOut, currentAt};
+ghost use Rattle.state_bytes.specs.StateBytes.{startedOut, currentAt};
 ghost use Rattle.log_records.specs.declared.Record.the-variants.{Refusal, Hart};
 ghost use Rattle.log_records.specs.Record.{recordDef, writtenDef, writtenOut};
 ghost use Rattle.log_reader.specs.Read.{parse};
@@ -102,7 +102,7 @@ pub extern "C" fn matnosoru_start(state: &mut [u8]) -> u64
     if state.len() != 81 {
         return refusals::refusal(refusals::OUTPUT_SHORT);
     }
-    harts::start(state);
+    state_bytes::start(state);
     81
 }
 
@@ -113,7 +113,7 @@ pub extern "C" fn matnosoru_next(state: &mut [u8], log: &[u8]) -> u64
     ensures { λ r. ⌜ r ≡ recordLength (readUnder (currentAt (now (state .entry))) (now (log .entry))) ⌝ }
     ensures { λ _. ⌜ now (state .exit) ≡ nextState (now (state .entry)) (readUnder (currentAt (now (state .entry))) (now (log .entry))) ⌝ }
 {
-    match harts::current_of(state) {
+    match state_bytes::current_of(state) {
         ProfileAt::Is(ctx) => match log_reader::read_record(ctx, log) {
             RecordRead::Got { record, len } => {
                 log_steps::move_past(state, record);

@@ -1,6 +1,6 @@
 -- `matnosoru_csrs::matnosoru_tables_differ` meets its contract: each exit by the tests on its way. Assumes nothing.
 use Rattle.utils.proofs.Prelude.{sym, ap, _∙_, subst, now, needs}
-use Rattle.harts.specs.Table.{FirstDifference}
+use Rattle.differences.specs.Difference.{FirstDifference}
 use Rattle.matnosoru_csrs.specs.Csrs.{place}
 use Rattle.matnosoru_csrs.proofs.Tables.{first-short, second-short, both-long}
 use Rattle.matnosoru_csrs.proofs.matnosoru_tables_differ.Statement.{statement}

@@ -1,7 +1,7 @@
 -- `matnosoru_listing::matnosoru_bad_line` meets its contract: a number from 1 to 255 has a line that fits. Assumes nothing.
 use Rattle.utils.proofs.Prelude.{ap, _∙_, arith, length, now, needs, lt-ltb, le-ltb, le-leb, lt-leb}
-use Rattle.listing.specs.Listing.{badLine}
-use Rattle.listing.proofs.Fits.{bad-fits}
+use Rattle.log_lines.specs.Lines.{badLine}
+use Rattle.log_lines.proofs.Fits.{bad-fits}
 use Rattle.abi.specs.Abi.{length-or}
 use Rattle.log_steps.proofs.Lines.{text-put}
 use Rattle.matnosoru_listing.proofs.matnosoru_bad_line.Statement.{statement}

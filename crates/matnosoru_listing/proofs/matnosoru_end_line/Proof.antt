@@ -1,7 +1,7 @@
 -- `matnosoru_listing::matnosoru_end_line` meets its contract: the line fits, so that its text is put. Assumes nothing.
 use Rattle.utils.proofs.Prelude.{ap, _∙_, arith, length, now, needs}
-use Rattle.listing.specs.Listing.{endLine}
-use Rattle.listing.proofs.Fits.{end-fits}
+use Rattle.log_lines.specs.Lines.{endLine}
+use Rattle.log_lines.proofs.Fits.{end-fits}
 use Rattle.abi.specs.Abi.{length-or}
 use Rattle.log_steps.proofs.Lines.{text-put}
 use Rattle.matnosoru_listing.proofs.matnosoru_end_line.Statement.{statement}

@@ -1,6 +1,6 @@
 -- `matnosoru_listing::matnosoru_header` meets its contract: the line fits, so that its text is put. Assumes nothing.
 use Rattle.utils.proofs.Prelude.{ap, _∙_, arith, length, now, needs}
-use Rattle.listing.specs.Listing.{header}
+use Rattle.log_lines.specs.Lines.{header}
 use Rattle.abi.specs.Abi.{length-or}
 use Rattle.log_steps.proofs.Lines.{text-put}
 use Rattle.matnosoru_listing.proofs.matnosoru_header.Statement.{statement}
