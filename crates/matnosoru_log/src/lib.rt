@@ -1,25 +1,16 @@
-// The exported functions of the trap log: a record by itself under a profile, and a whole log walked with its state. Each is thin over the
-// crates below.
+// The exported functions of the trap log for a record by itself, under a profile. Each is thin over the crates below.
 ghost use mathlib.Core.Path.{_≡_};
-ghost use mathlib.Core.Bool.{cond};
-ghost use Prim.Native.Nat.{_*_, _^_};
-ghost use lib.Dec.{eqb};
 ghost use lib.ListN.{length};
 ghost use Rattle.profiles.specs.Profile.{emptyProfile};
-ghost use Rattle.state_bytes.specs.StateBytes.{startedOut, currentAt};
 ghost use Rattle.log_records.specs.declared.Record.the-variants.{Refusal, Hart};
 ghost use Rattle.log_records.specs.Record.{recordDef, writtenDef, writtenOut};
 ghost use Rattle.log_reader.specs.Read.{parse};
-ghost use Rattle.log_steps.specs.Next.{readUnder};
+ghost use Rattle.log_steps.specs.Next.{recordLength};
 ghost use Rattle.log_steps.specs.Lines.{lineDef, lineOut};
 ghost use Rattle.abi.specs.Abi.{profile, length-or};
-ghost use Rattle.matnosoru_log.specs.Next.{recordLength, nextState};
-use harts::ProfileAt;
 use log_reader::RecordRead;
 use log_records::Record;
 use profiles::Profile;
-
-// ———————————————————————————————— Records —————————————————————————————————
 
 // Checks the first record of a log under the current profile: its length, or the refusal.
 #[no_mangle]
@@ -89,38 +80,4 @@ fn put_record(record: Record, out: &mut [u8]) -> u64
     ensures { λ _. ⌜ now (out .exit) ≡ writtenOut (recordDef emptyProfile «record») (now (out .entry)) ⌝ }
 {
     abi::length_of(log_records::write_record(Profile::from_flags(0, 0), record, out))
-}
-
-// —————————————————————————————— A whole log ———————————————————————————————
-
-// Makes the state with which a log begins: its length, or 14 where there are not as many bytes.
-#[no_mangle]
-pub extern "C" fn matnosoru_start(state: &mut [u8]) -> u64
-    ensures { λ r. ⌜ r ≡ cond (eqb (length (now (state .entry))) 81) 81 (14 * 2 ^ 32) ⌝ }
-    ensures { λ _. ⌜ now (state .exit) ≡ startedOut (now (state .entry)) ⌝ }
-{
-    if state.len() != 81 {
-        return refusals::refusal(refusals::OUTPUT_SHORT);
-    }
-    state_bytes::start(state);
-    81
-}
-
-// Reads the first record of a log under the state's current hart, and moves the state past it: the record's length, or the refusal,
-// those of the state first.
-#[no_mangle]
-pub extern "C" fn matnosoru_next(state: &mut [u8], log: &[u8]) -> u64
-    ensures { λ r. ⌜ r ≡ recordLength (readUnder (currentAt (now (state .entry))) (now (log .entry))) ⌝ }
-    ensures { λ _. ⌜ now (state .exit) ≡ nextState (now (state .entry)) (readUnder (currentAt (now (state .entry))) (now (log .entry))) ⌝ }
-{
-    match state_bytes::current_of(state) {
-        ProfileAt::Is(ctx) => match log_reader::read_record(ctx, log) {
-            RecordRead::Got { record, len } => {
-                log_steps::move_past(state, record);
-                len as u64
-            }
-            RecordRead::Refused(n) => refusals::refusal(n),
-        },
-        ProfileAt::Refused(n) => refusals::refusal(n),
-    }
 }

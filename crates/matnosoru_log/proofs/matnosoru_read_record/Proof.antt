@@ -2,7 +2,7 @@
 use Rattle.utils.proofs.Prelude.{sym, ap, _∙_, now, needs}
 use Rattle.profiles.specs.declared.Profile.{Profile}
 use Rattle.log_reader.specs.Read.{parse}
-use Rattle.matnosoru_log.specs.Next.{recordLength}
+use Rattle.log_steps.specs.Next.{recordLength}
 use Rattle.matnosoru_log.proofs.matnosoru_read_record.Statement.{statement}
 use Rattle.matnosoru_log.proofs.matnosoru_read_record.Tie as tie
 

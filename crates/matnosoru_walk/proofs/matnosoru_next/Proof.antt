@@ -1,10 +1,9 @@
--- `matnosoru_log::matnosoru_next` meets its contract: each way knows what was read and under which profile. Assumes nothing.
+-- `matnosoru_walk::matnosoru_next` meets its contract: each way knows what was read and under which profile. Assumes nothing.
 use Rattle.utils.proofs.Prelude.{sym, ap, _∙_, now, needs}
 use Rattle.harts.specs.declared.ProfileAt.{ProfileAt}
-use Rattle.log_steps.specs.Next.{readUnder}
-use Rattle.matnosoru_log.specs.Next.{recordLength, nextState}
-use Rattle.matnosoru_log.proofs.matnosoru_next.Statement.{statement}
-use Rattle.matnosoru_log.proofs.matnosoru_next.Tie as tie
+use Rattle.log_steps.specs.Next.{readUnder, recordLength, nextState}
+use Rattle.matnosoru_walk.proofs.matnosoru_next.Statement.{statement}
+use Rattle.matnosoru_walk.proofs.matnosoru_next.Tie as tie
 
 returns : tie.Need-returns
 returns c =

@@ -1,7 +1,7 @@
--- `matnosoru_log::matnosoru_start` meets its contract: a state is begun, and what is no state is refused. Assumes nothing.
+-- `matnosoru_walk::matnosoru_start` meets its contract: a state is begun, and what is no state is refused. Assumes nothing.
 use Rattle.utils.proofs.Prelude.{needs, eq-eqb, ne-eqb}
-use Rattle.matnosoru_log.proofs.matnosoru_start.Statement.{statement}
-use Rattle.matnosoru_log.proofs.matnosoru_start.Tie as tie
+use Rattle.matnosoru_walk.proofs.matnosoru_start.Statement.{statement}
+use Rattle.matnosoru_walk.proofs.matnosoru_start.Tie as tie
 
 returns : tie.Need-returns
 returns c = let other = ne-eqb _ _ (c .before .if1 .taken) in (simp other (c .refusal .ensures), simp other)
