@@ -6,13 +6,15 @@ use denote.Enum.Declared.{tagOf}
 use mir.Val.{hasKey}
 use types.Run.{OneOf, miss}
 use Rattle.utils.proofs.Tests.{both}
-use Rattle.registers.specs.declared.Csr.{Csr, the-variants.Custom}
-use Rattle.registers.specs.declared.Idx.the-variants.{At}
-use Rattle.registers.specs.Find.{Spot, is, nothing, find, downFrom, join}
-use Rattle.registers.specs.Address.{idxDef, registers}
-use Rattle.registers.proofs.Csr.{the-type}
-use Rattle.registers.proofs.Find.{Mem, left, right, mapped, within, all, keeps, kept, found-at, found-in, hit}
-use Rattle.registers.proofs.Laws.{at-is, every, idx-once}
+use Rattle.csr_addresses.specs.declared.Csr.{Csr, the-variants.Custom}
+use Rattle.csr_addresses.specs.declared.Idx.the-variants.{At}
+use Rattle.utils.specs.Lists.{downFrom, join}
+use Rattle.csr_addresses.specs.Find.{Spot, is, nothing, find}
+use Rattle.csr_addresses.specs.Address.{idxDef, registers}
+use Rattle.csr_addresses.proofs.Csr.{the-type}
+use Rattle.utils.proofs.Members.{Mem, left, right, mapped, within, all}
+use Rattle.csr_addresses.proofs.Find.{keeps, kept, found-at, found-in, hit}
+use Rattle.csr_addresses.proofs.Laws.{at-is, every, idx-once}
 use Rattle.csrs.specs.declared.Gate.{Gate, the-variants.Always, the-variants.MaskBit}
 use Rattle.csrs.specs.Gates.{Group, group, groups, Row, behind, rowsOf, customRow, rowIdx, spotDef, gateIn, gateDef}
 use Rattle.csrs.proofs.Arms.{rows-distinct}

@@ -4,19 +4,20 @@ use mathlib.Core.Path.{_≡_}
 use mathlib.Core.Bool.{Bool, true, false}
 use mathlib.Core.List.{List, [], _∷_, _++_, map}
 use Prim.Native.Nat.{ℕ, _+_, _*_, _^_, _<_}
-use Rattle.registers.specs.declared.Csr.{Csr}
-use Rattle.registers.specs.declared.Csr.the-variants.{Mhartid, Mstatus, Misa, Mie, Mtvec, Mscratch, Mip, Mvendorid, Marchid, Mimpid, Pmpcfg, Pmpaddr}
-use Rattle.registers.specs.declared.Csr.the-variants.{Mcycle, Minstret, Cycle, Time, Instret, Mhpmcounter, Mcountinhibit, Mhpmevent, Mcounteren}
-use Rattle.registers.specs.declared.Csr.the-variants.{Menvcfg, Mseccfg, Mconfigptr, Medeleg, Mideleg, Mtinst, Mtval2, Tselect, Tdata1, Tdata2, Tdata3}
-use Rattle.registers.specs.declared.Csr.the-variants.{Mcontext, Dcsr, Dpc, Dscratch0, Dscratch1, Mepc, Mcause, Mtval, Sstatus, Sie, Stvec, Scounteren}
-use Rattle.registers.specs.declared.Csr.the-variants.{Senvcfg, Sscratch, Sepc, Scause, Stval, Sip, Satp, Scontext, Stimecmp, Hstatus, Hedeleg}
-use Rattle.registers.specs.declared.Csr.the-variants.{Hideleg, Hvip, Hip, Hie, Hgeip, Hgeie, Henvcfg, Hcounteren, Htimedelta, Htval, Htinst, Hgatp}
-use Rattle.registers.specs.declared.Csr.the-variants.{Vsstatus, Vsie, Vstvec, Vsscratch, Vsepc, Vscause, Vstval, Vsip, Vsatp, Vstart, Vxsat, Vxrm}
-use Rattle.registers.specs.declared.Csr.the-variants.{Vcsr, Vl, Vtype, Vlenb, Seed, Custom}
-use Rattle.registers.specs.declared.Idx.{Idx}
-use Rattle.registers.specs.declared.Idx.the-variants.{At, Refused}
-use Rattle.registers.specs.Find.{Spot, is, nothing, find, downFrom, join}
-use Rattle.registers.specs.Address.{idxDef}
+use Rattle.csr_addresses.specs.declared.Csr.{Csr}
+use Rattle.csr_addresses.specs.declared.Csr.the-variants.{Mhartid, Mstatus, Misa, Mie, Mtvec, Mscratch, Mip, Mvendorid, Marchid, Mimpid, Pmpcfg, Pmpaddr}
+use Rattle.csr_addresses.specs.declared.Csr.the-variants.{Mcycle, Minstret, Cycle, Time, Instret, Mhpmcounter, Mcountinhibit, Mhpmevent, Mcounteren}
+use Rattle.csr_addresses.specs.declared.Csr.the-variants.{Menvcfg, Mseccfg, Mconfigptr, Medeleg, Mideleg, Mtinst, Mtval2, Tselect, Tdata1, Tdata2, Tdata3}
+use Rattle.csr_addresses.specs.declared.Csr.the-variants.{Mcontext, Dcsr, Dpc, Dscratch0, Dscratch1, Mepc, Mcause, Mtval, Sstatus, Sie, Stvec, Scounteren}
+use Rattle.csr_addresses.specs.declared.Csr.the-variants.{Senvcfg, Sscratch, Sepc, Scause, Stval, Sip, Satp, Scontext, Stimecmp, Hstatus, Hedeleg}
+use Rattle.csr_addresses.specs.declared.Csr.the-variants.{Hideleg, Hvip, Hip, Hie, Hgeip, Hgeie, Henvcfg, Hcounteren, Htimedelta, Htval, Htinst, Hgatp}
+use Rattle.csr_addresses.specs.declared.Csr.the-variants.{Vsstatus, Vsie, Vstvec, Vsscratch, Vsepc, Vscause, Vstval, Vsip, Vsatp, Vstart, Vxsat, Vxrm}
+use Rattle.csr_addresses.specs.declared.Csr.the-variants.{Vcsr, Vl, Vtype, Vlenb, Seed, Custom}
+use Rattle.csr_addresses.specs.declared.Idx.{Idx}
+use Rattle.csr_addresses.specs.declared.Idx.the-variants.{At, Refused}
+use Rattle.utils.specs.Lists.{downFrom, join}
+use Rattle.csr_addresses.specs.Find.{Spot, is, nothing, find}
+use Rattle.csr_addresses.specs.Address.{idxDef}
 use Rattle.profiles.specs.declared.Profile.{Profile}
 use Rattle.csrs.specs.declared.Gate.{Gate}
 use Rattle.csrs.specs.declared.Gate.the-variants.{Always, Zicntr, Zihpm, Tee, Smode, Hmode, Sstc, Vector, Crypto, MaskBit}

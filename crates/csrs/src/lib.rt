@@ -1,13 +1,13 @@
 // Which CSRs each profile makes available: `decode_csr` of Miralis's src/decoder.rs, as a look-up and a gate.
 ghost use mathlib.Core.Path.{_≡_};
 ghost use Prim.Native.Nat.{ℕ};
-ghost use Rattle.registers.specs.declared.Idx.the-variants.{At};
-ghost use Rattle.registers.specs.Address.{idxDef};
+ghost use Rattle.csr_addresses.specs.declared.Idx.the-variants.{At};
+ghost use Rattle.csr_addresses.specs.Address.{idxDef};
 ghost use Rattle.csrs.specs.Gates.{allowsDef, gateDef, GatedAt, decodeCsrDef, available};
 ghost use Rattle.csrs.specs.Count.{countDef};
+use csr_addresses::Csr;
+use csr_addresses::address;
 use profiles::Profile;
-use registers::Csr;
-use registers::address;
 
 // What a register waits for: nothing, a flag of the profile, or a bit of its custom mask.
 pub enum Gate {

@@ -1,3 +1,1 @@
-pub mod Find
-pub mod Laws
 pub mod Numbers

@@ -1,4 +1,1 @@
-pub mod Find
-pub mod Address
-pub mod Masks
 pub mod Numbers

@@ -8,7 +8,7 @@ use lib.Dec.{eqb, ltb}
 use lib.ListN.{getD}
 use Rattle.utils.specs.Field.{fld}
 use Rattle.utils.specs.declared.Code.the-variants.{Is as IsCode}
-use Rattle.registers.specs.declared.Csr.{Csr}
+use Rattle.csr_addresses.specs.declared.Csr.{Csr}
 use Rattle.registers.specs.declared.Register.{Register}
 use Rattle.csrs.specs.declared.CsrLookup.{CsrLookup}
 use Rattle.csrs.specs.declared.CsrLookup.the-variants.{Found, Missing}

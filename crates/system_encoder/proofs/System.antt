@@ -2,9 +2,9 @@
 -- instruction value, nonsense included. The table gives it for shapes; what a profile makes of a shape goes both ways. Assumes nothing.
 use Rattle.utils.proofs.Prelude.{_≡_, refl, sym, ap, _∙_, subst, Bool, true, false, cond, List, [], _∷_, ℕ, zero, suc, _^_, _<_, _≤_, arith, ltb, getD, lt-ltb}
 use Rattle.utils.specs.declared.Code.the-variants.{Is}
-use Rattle.registers.specs.declared.Csr.{Csr}
-use Rattle.registers.specs.declared.Idx.{Idx, the-variants.At, the-variants.Refused as Nowhere}
-use Rattle.registers.specs.Address.{idxDef}
+use Rattle.csr_addresses.specs.declared.Csr.{Csr}
+use Rattle.csr_addresses.specs.declared.Idx.{Idx, the-variants.At, the-variants.Refused as Nowhere}
+use Rattle.csr_addresses.specs.Address.{idxDef}
 use Rattle.registers.specs.Numbers.{areValid}
 use Rattle.registers.proofs.Numbers.{are-valid, valid}
 use Rattle.csrs.specs.declared.CsrLookup.{CsrLookup, the-variants.Found, the-variants.Missing}

@@ -19,7 +19,7 @@ use Rattle.system_decoder.specs.declared.Shape.{Shape, the-variants.Fence as fe
 use Rattle.system_decoder.specs.System.{operands, operandsOf, funct3, always, barredDef, meaning}
 use Rattle.registers.specs.Numbers.{areValid}
 use Rattle.profiles.specs.declared.Profile.{Profile}
-use Rattle.registers.specs.declared.Csr.{Csr}
+use Rattle.csr_addresses.specs.declared.Csr.{Csr}
 use Rattle.csrs.specs.declared.CsrLookup.{CsrLookup, the-variants.Found, the-variants.Missing}
 use Rattle.csrs.specs.Gates.{decodeCsrDef, isFound, available}
 use Rattle.system_encoder.specs.System.{reached, checkedDef}

@@ -1,10 +1,10 @@
 -- The SYSTEM writing: the shape in which a profile lets an instruction be written, or why not; and the shape's word, by the table that reads it.
 use mathlib.Core.Bool.{Bool, true, false, cond}
 use Prim.Native.Nat.{ℕ, _^_}
-use Rattle.registers.specs.declared.Csr.{Csr}
-use Rattle.registers.specs.declared.Idx.{Idx}
-use Rattle.registers.specs.declared.Idx.the-variants.{At, Refused as Nowhere}
-use Rattle.registers.specs.Address.{idxDef}
+use Rattle.csr_addresses.specs.declared.Csr.{Csr}
+use Rattle.csr_addresses.specs.declared.Idx.{Idx}
+use Rattle.csr_addresses.specs.declared.Idx.the-variants.{At, Refused as Nowhere}
+use Rattle.csr_addresses.specs.Address.{idxDef}
 use Rattle.registers.specs.Numbers.{areValid}
 use Rattle.profiles.specs.declared.Profile.{Profile}
 use Rattle.csrs.specs.Gates.{available}

@@ -1,3 +1,4 @@
 pub mod Field
 pub mod Signed
 pub mod Width
+pub mod Lists

@@ -1,8 +1,9 @@
 -- `csrs::gate_of` meets its contract: each arm by the line of the table that has its registers, which are told by their variants' numbers.
 -- Assumes nothing.
 use Rattle.utils.proofs.Prelude.{sym, ap, _∙_, [], _∷_, arith, needs}
-use Rattle.registers.specs.Address.{idxDef}
-use Rattle.registers.proofs.Find.{all, keeps}
+use Rattle.csr_addresses.specs.Address.{idxDef}
+use Rattle.utils.proofs.Members.{all}
+use Rattle.csr_addresses.proofs.Find.{keeps}
 use Rattle.csrs.specs.Gates.{spotDef, gateDef}
 use Rattle.csrs.proofs.Laws.{no-row}
 use Rattle.csrs.proofs.Waits.{if-among, in-group, waits, shut, custom-low, custom-waits}

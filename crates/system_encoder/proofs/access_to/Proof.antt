@@ -1,6 +1,6 @@
 -- `system_encoder::access_to` meets its contract: each arm knows what `idx` gave. Assumes nothing.
 use Rattle.utils.proofs.Prelude.{sym, ap, _∙_, needs}
-use Rattle.registers.specs.declared.Idx.{Idx}
+use Rattle.csr_addresses.specs.declared.Idx.{Idx}
 use Rattle.system_decoder.specs.declared.Shape.the-variants.{Access as access}
 use Rattle.system_encoder.specs.System.{placeOf}
 use Rattle.system_encoder.proofs.access_to.Statement.{statement}

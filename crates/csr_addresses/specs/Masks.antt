@@ -1,5 +1,5 @@
 -- The masks of document 01: which bits of pmpcfg lock an entry, and which bits of pmpcfg, pmpaddr and mcountinhibit may be one.
-use Rattle.registers.specs.declared.Masks.{Masks}
+use Rattle.csr_addresses.specs.declared.Masks.{Masks}
 
 abbrev pub masksOf : Masks
 masksOf = record {

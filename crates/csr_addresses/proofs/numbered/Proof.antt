@@ -1,7 +1,7 @@
--- `registers::numbered` meets its contract. Assumes nothing.
+-- `csr_addresses::numbered` meets its contract. Assumes nothing.
 use Rattle.utils.proofs.Prelude.{needs, le-leb, lt-leb}
-use Rattle.registers.proofs.numbered.Statement.{statement}
-use Rattle.registers.proofs.numbered.Tie as tie
+use Rattle.csr_addresses.proofs.numbered.Statement.{statement}
+use Rattle.csr_addresses.proofs.numbered.Tie as tie
 
 pub numbered-spec : {M : Type 1} → statement M
 numbered-spec =

@@ -1,10 +1,10 @@
 -- Looking for an address in a list of things that have addresses.
 use mathlib.Core.Bool.{Bool, true, false}
-use mathlib.Core.List.{List, [], _∷_, _++_}
-use Prim.Native.Nat.{ℕ, zero, suc}
+use mathlib.Core.List.{List, [], _∷_}
+use Prim.Native.Nat.{ℕ}
 use lib.Dec.{eqb}
-use Rattle.registers.specs.declared.Idx.{Idx}
-use Rattle.registers.specs.declared.Idx.the-variants.{At, Refused}
+use Rattle.csr_addresses.specs.declared.Idx.{Idx}
+use Rattle.csr_addresses.specs.declared.Idx.the-variants.{At, Refused}
 
 -- what is found at an address
 pub data Spot (X : Type 0) : Type 0 where
@@ -19,12 +19,3 @@ here a (Refused n) = false
 abbrev pub find : {X : Type 0} → (X → Idx) → ℕ → List X → Spot X
 find idx a [] = nothing
 find idx a (x ∷ xs) = elim (here a (idx x)) [ true ↦ is x | false ↦ find idx a xs ]
-
--- n - 1, .. 1, 0
-abbrev pub downFrom : ℕ → List ℕ
-downFrom zero = []
-downFrom (suc n) = n ∷ downFrom n
-
-abbrev pub join : {X : Type 0} → List (List X) → List X
-join [] = []
-join (b ∷ bs) = b ++ join bs

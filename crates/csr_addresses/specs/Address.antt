@@ -3,18 +3,18 @@ use mathlib.Core.Bool.{Bool, true, false, _&&_}
 use mathlib.Core.List.{List, [], _∷_, map}
 use Prim.Native.Nat.{ℕ, _+_, _*_, _%_}
 use lib.Dec.{eqb, leb}
-use Rattle.registers.specs.declared.Csr.{Csr}
-use Rattle.registers.specs.declared.Csr.the-variants.{Mhartid, Mstatus, Misa, Mie, Mtvec, Mscratch, Mip, Mvendorid, Marchid, Mimpid, Pmpcfg}
-use Rattle.registers.specs.declared.Csr.the-variants.{Pmpaddr, Mcycle, Minstret, Cycle, Time, Instret, Mhpmcounter, Mcountinhibit, Mhpmevent}
-use Rattle.registers.specs.declared.Csr.the-variants.{Mcounteren, Menvcfg, Mseccfg, Mconfigptr, Medeleg, Mideleg, Mtinst, Mtval2, Tselect}
-use Rattle.registers.specs.declared.Csr.the-variants.{Tdata1, Tdata2, Tdata3, Mcontext, Dcsr, Dpc, Dscratch0, Dscratch1, Mepc, Mcause, Mtval}
-use Rattle.registers.specs.declared.Csr.the-variants.{Sstatus, Sie, Stvec, Scounteren, Senvcfg, Sscratch, Sepc, Scause, Stval, Sip, Satp}
-use Rattle.registers.specs.declared.Csr.the-variants.{Scontext, Stimecmp, Hstatus, Hedeleg, Hideleg, Hvip, Hip, Hie, Hgeip, Hgeie, Henvcfg}
-use Rattle.registers.specs.declared.Csr.the-variants.{Hcounteren, Htimedelta, Htval, Htinst, Hgatp, Vsstatus, Vsie, Vstvec, Vsscratch, Vsepc}
-use Rattle.registers.specs.declared.Csr.the-variants.{Vscause, Vstval, Vsip, Vsatp, Vstart, Vxsat, Vxrm, Vcsr, Vl, Vtype, Vlenb, Seed, Custom}
-use Rattle.registers.specs.declared.Idx.{Idx}
-use Rattle.registers.specs.declared.Idx.the-variants.{At, Refused}
-use Rattle.registers.specs.Find.{downFrom, join}
+use Rattle.csr_addresses.specs.declared.Csr.{Csr}
+use Rattle.csr_addresses.specs.declared.Csr.the-variants.{Mhartid, Mstatus, Misa, Mie, Mtvec, Mscratch, Mip, Mvendorid, Marchid, Mimpid, Pmpcfg}
+use Rattle.csr_addresses.specs.declared.Csr.the-variants.{Pmpaddr, Mcycle, Minstret, Cycle, Time, Instret, Mhpmcounter, Mcountinhibit, Mhpmevent}
+use Rattle.csr_addresses.specs.declared.Csr.the-variants.{Mcounteren, Menvcfg, Mseccfg, Mconfigptr, Medeleg, Mideleg, Mtinst, Mtval2, Tselect}
+use Rattle.csr_addresses.specs.declared.Csr.the-variants.{Tdata1, Tdata2, Tdata3, Mcontext, Dcsr, Dpc, Dscratch0, Dscratch1, Mepc, Mcause, Mtval}
+use Rattle.csr_addresses.specs.declared.Csr.the-variants.{Sstatus, Sie, Stvec, Scounteren, Senvcfg, Sscratch, Sepc, Scause, Stval, Sip, Satp}
+use Rattle.csr_addresses.specs.declared.Csr.the-variants.{Scontext, Stimecmp, Hstatus, Hedeleg, Hideleg, Hvip, Hip, Hie, Hgeip, Hgeie, Henvcfg}
+use Rattle.csr_addresses.specs.declared.Csr.the-variants.{Hcounteren, Htimedelta, Htval, Htinst, Hgatp, Vsstatus, Vsie, Vstvec, Vsscratch, Vsepc}
+use Rattle.csr_addresses.specs.declared.Csr.the-variants.{Vscause, Vstval, Vsip, Vsatp, Vstart, Vxsat, Vxrm, Vcsr, Vl, Vtype, Vlenb, Seed, Custom}
+use Rattle.csr_addresses.specs.declared.Idx.{Idx}
+use Rattle.csr_addresses.specs.declared.Idx.the-variants.{At, Refused}
+use Rattle.utils.specs.Lists.{downFrom, join}
 
 -- an address where the payload is one that the register has, else refusal 7
 abbrev pub atIf : Bool → ℕ → Idx

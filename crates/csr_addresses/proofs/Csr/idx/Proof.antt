@@ -1,10 +1,10 @@
--- `registers::Csr::idx` meets its contract: each arm knows the register, whose address computes. Assumes nothing.
+-- `csr_addresses::Csr::idx` meets its contract: each arm knows the register, whose address computes. Assumes nothing.
 use Rattle.utils.proofs.Prelude.{_≡_, refl, sym, ap, _∙_, _%_, needs, eq-eqb, ne-eqb, le-leb, lt-leb}
-use Rattle.registers.specs.declared.Csr.{Csr}
-use Rattle.registers.specs.declared.Idx.{Idx}
-use Rattle.registers.specs.Address.{idxDef}
-use Rattle.registers.proofs.Csr.idx.Statement.{statement}
-use Rattle.registers.proofs.Csr.idx.Tie as tie
+use Rattle.csr_addresses.specs.declared.Csr.{Csr}
+use Rattle.csr_addresses.specs.declared.Idx.{Idx}
+use Rattle.csr_addresses.specs.Address.{idxDef}
+use Rattle.csr_addresses.proofs.Csr.idx.Statement.{statement}
+use Rattle.csr_addresses.proofs.Csr.idx.Tie as tie
 
 -- the register is the arm's
 told : {c d : Csr} {i : Idx} → c ≡ d → i ≡ idxDef d → i ≡ idxDef c
