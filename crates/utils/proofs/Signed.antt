@@ -1,9 +1,10 @@
 -- The laws of two's complement over a half H, once for every width, and the machine's reading of a signed number. Assumes nothing.
 use Rattle.utils.proofs.Prelude.{_≡_, refl, sym, ap, _∙_, subst, Bool, true, false, cond, ℕ, suc, _*_, _-_, _%_, _^_, _<_, _≤_, arith, ltb, T}
-use Rattle.utils.proofs.Prelude.{mod-eq-of-lt, ℤ, mag, w64, SFits, Fits, toZ, ofZ, toZ-ofZ, lt-ltb, le-ltb, ltb-true, ltb-false}
+use Rattle.utils.proofs.Prelude.{mod-eq-of-lt, ℤ, mag, and-mask, bitAnd, w64, SFits, Fits, toZ, ofZ, toZ-ofZ, lt-ltb, le-ltb, ltb-true, ltb-false}
 use native.Mathlib.Nat.{suc-sub-suc}
 use lib.IntN.{pos, negsuc, _-ℤ_, natAbs}
 use lib.Signed.{ltZ, nonNeg}
+use lib.Bits.{and-le-r}
 use mir.ValLaws.{toZ-pos}
 use Rattle.utils.specs.declared.Sign.{Sign, the-variants.Up, the-variants.Down}
 use Rattle.utils.specs.Signed.{signed, twos, parts, codeDef}
@@ -159,3 +160,27 @@ code-is H z y =
     (λ e q. let same : twos H z ≡ y = cc in
     subst (λ (x : ℕ). (x < 2 * H) × (signed H x ≡ z)) same (twos-lt H z (ltb-true _ _ e), signed-twos H z (ltb-true _ _ e)))
     (λ e q. not-out y q)
+
+-- ---- the low sixteen bits
+-- a mask below 2^63 leaves no sign: x is a number as the machine keeps it
+module _ (x : ℕ) {m : ℕ} (h : m < 2 ^ 63) where
+  masked : toZ w64 (bitAnd x m) ≡ pos (bitAnd x m)
+  masked = toZ-pos w64 _ (omega (arith, and-le-r x m))
+
+  pub masked-cast : T (nonNeg (toZ w64 (bitAnd x m))) × Fits w64 (natAbs (toZ w64 (bitAnd x m)))
+  masked-cast = subst (λ (v : ℤ). T (nonNeg v) × Fits w64 (natAbs v)) (sym masked) (tt, record { fits = omega (arith, and-le-r x m) })
+
+pub low-bits : (z : ℤ) → natAbs (toZ w64 (bitAnd (ofZ w64 z) 65535)) ≡ twos (2 ^ 63) z % 65536
+low-bits z = ap natAbs (masked (ofZ w64 z) (omega arith)) ∙ and-mask (ofZ w64 z) 16 ∙ ap (λ (n : ℕ). n % 65536) (code z)
+  where
+    code : (z : ℤ) → ofZ w64 z ≡ twos (2 ^ 63) z
+    code (pos n) = refl
+    code (negsuc m) = omega arith
+
+-- an immediate that they hold has them as its code: n is what `sixteen_bits` answers, of z as the machine reads it back
+pub sixteen : (z : ℤ) → mag z < 32768 → {n : ℕ} → n ≡ twos (2 ^ 63) (toZ w64 (ofZ w64 z)) % 65536 → n ≡ twos 32768 z
+sixteen z h e = e ∙ ap (λ (v : ℤ). twos (2 ^ 63) v % 65536) (toZ-ofZ w64 z (record { sfits = omega arith })) ∙ low z h
+  where
+    low : (z : ℤ) → mag z < 32768 → twos (2 ^ 63) z % 65536 ≡ twos 32768 z
+    low (pos n) h = omega arith
+    low (negsuc m) h = omega arith

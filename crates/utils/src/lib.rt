@@ -145,3 +145,10 @@ pub fn code_of(imm: isize, half: u32) -> Code
         },
     }
 }
+
+// The low sixteen bits of an immediate, in two's complement.
+pub fn sixteen_bits(imm: isize) -> usize
+    ensures { λ r. ⌜ r ≡ twos (2 ^ 63) imm % 65536 ⌝ }
+{
+    (imm & 0xFFFF) as usize
+}
