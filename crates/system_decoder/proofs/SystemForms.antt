@@ -15,15 +15,14 @@ use Rattle.forms.proofs.Accepts.{fields-of, Unread, passed, unread}
 use Rattle.forms.proofs.Codes.{bit-one}
 use Rattle.system_decoder.specs.declared.CsrOp.{CsrOp, the-variants.Write, the-variants.Set, the-variants.Clear}
 use Rattle.system_decoder.specs.declared.Fence.{Fence, the-variants.Vma, the-variants.Vvma, the-variants.Gvma}
-use Rattle.system_decoder.specs.declared.IllegalRead.the-variants.{Unknown}
 use Rattle.system_decoder.specs.Forms.{funct7, nth, fenced, wfi, mret, sret, sfence-vma, hfence-vvma, hfence-gvma, accesses, system}
 use Rattle.system_decoder.specs.declared.Shape.{Shape, the-variants.Fence as fence, the-variants.Access as access}
-use Rattle.system_decoder.specs.System.{numberOf, opCode, funct3, meaning, accessAt, shapeAt}
+use Rattle.system_decoder.specs.System.{opCode, funct3, meaning, accessAt, shapeAt}
 
 -- what is known of a word, by a table of SYSTEM words
 known : (T : List Layout) → all good T ≡ true → (w : ℕ) (fs : List Fact) → Known w fs → (settles fs T && clears fs []) ≡ true
-    → readOf T meaning w ≡ readAs meaning w (first (fits fs) T (numberOf Unknown))
-known T ok = by-facts T meaning ok [] (numberOf Unknown) (λ w. refl)
+    → readOf T meaning w ≡ readAs meaning w (first (fits fs) T 1)
+known T ok = by-facts T meaning ok [] 1 (λ w. refl)
 
 -- a form that reads a word has its bits
 has : (w : ℕ) (L : Layout) → readable w L ≡ true → matches L w ≡ true
@@ -37,7 +36,7 @@ wholes = wfi ∷ mret ∷ sret ∷ sfence-vma ∷ hfence-vvma ∷ hfence-gvma �
 pub past-wholes : (w : ℕ) → (w < 2 ^ 32 → Unread w wholes) → shapeAt w ≡ accessAt w
 unfolding shapeAt accessAt
 past-wholes w h =
-    on (λ (k : Answer Shape). k ≡ accessAt w) (ltb w (2 ^ 32)) (λ e. ap (readAs meaning w) (passed w wholes accesses (numberOf Unknown) (h (ltb-true w (2 ^ 32) e)))) (λ _. refl)
+    on (λ (k : Answer Shape). k ≡ accessAt w) (ltb w (2 ^ 32)) (λ e. ap (readAs meaning w) (passed w wholes accesses 1 (h (ltb-true w (2 ^ 32) e)))) (λ _. refl)
 
 -- bits 14:7 zero, and everything from bit 25 up equal to k
 pub record FenceForm (w k : ℕ) : Type 0 where
@@ -119,17 +118,17 @@ at-access w Set true e f = known accesses refl w (is 12 3 0b110 ∷ is 0 7 0x73 
 at-access w Clear true e f = known accesses refl w (is 12 3 0b111 ∷ is 0 7 0x73 ∷ []) (f, (e, tt)) refl
 
 -- ---- words of no form
-pub at-foreign : (w : ℕ) → (w % 2 ^ 7 ≡ 0x73 → ⊥) → shapeAt w ≡ refusal (numberOf Unknown)
+pub at-foreign : (w : ℕ) → (w % 2 ^ 7 ≡ 0x73 → ⊥) → shapeAt w ≡ refusal 1
 unfolding shapeAt accessAt
 at-foreign w n =
-    on (λ (k : Answer Shape). k ≡ refusal (numberOf Unknown)) (ltb w (2 ^ 32))
+    on (λ (k : Answer Shape). k ≡ refusal 1) (ltb w (2 ^ 32))
     (λ _. known system refl w (isnt 0 7 0x73 ∷ []) (n, tt) refl) (λ _. known accesses refl w (isnt 0 7 0x73 ∷ []) (n, tt) refl)
 
 pub low-two : (w : ℕ) → fld w 12 3 % 4 ≡ fld w 12 2
 low-two w = omega arith
 
 -- bits 13:12 are zero: bits 14:12 are 0 or 4
-pub at-no-op : (w : ℕ) → w % 2 ^ 7 ≡ 0x73 → fld w 12 3 % 4 ≡ 0 → accessAt w ≡ refusal (numberOf Unknown)
+pub at-no-op : (w : ℕ) → w % 2 ^ 7 ≡ 0x73 → fld w 12 3 % 4 ≡ 0 → accessAt w ≡ refusal 1
 unfolding accessAt
 at-no-op w e z = known accesses refl w (is 0 7 0x73 ∷ is 12 2 0b00 ∷ []) (e, (sym (low-two w) ∙ z, tt)) refl
 

@@ -8,10 +8,9 @@ use Rattle.forms.specs.Answer.{value, refusal}
 use Rattle.forms.proofs.Codes.{bit-one}
 use Rattle.system_decoder.specs.declared.CsrOp.{CsrOp}
 use Rattle.system_decoder.specs.declared.Fence.{Fence, the-variants.Vma, the-variants.Vvma, the-variants.Gvma}
-use Rattle.system_decoder.specs.declared.IllegalRead.the-variants.{Unknown}
 use Rattle.system_decoder.specs.Forms.{funct7}
 use Rattle.system_decoder.specs.declared.Shape.{Shape, the-variants.Fence as fence, the-variants.Access as access}
-use Rattle.system_decoder.specs.System.{numberOf, opCode, FieldsOf, accessAt, shapeAt}
+use Rattle.system_decoder.specs.System.{opCode, FieldsOf, accessAt, shapeAt}
 use Rattle.system_decoder.proofs.SystemMasks.{fenceBits, fence-mask}
 use Rattle.system_decoder.proofs.SystemForms.{FenceForm, past-wholes, unfit-other, at-fence, at-access, at-foreign, at-no-op, low-two}
 
@@ -19,7 +18,7 @@ use Rattle.system_decoder.proofs.SystemForms.{FenceForm, past-wholes, u
 pub opcode : (w : ℕ) → bitAnd w 0x7F ≡ 0x73 → w % 2 ^ 7 ≡ 0x73
 opcode w e = sym (and-mask w 7) ∙ e
 
-pub foreign : (w : ℕ) → (bitAnd w 0x7F ≡ 0x73 → ⊥) → refusal (numberOf Unknown) ≡ shapeAt w
+pub foreign : (w : ℕ) → (bitAnd w 0x7F ≡ 0x73 → ⊥) → refusal 1 ≡ shapeAt w
 foreign w n = sym (at-foreign w (λ e. n (and-mask w 7 ∙ e)))
 
 -- the bits that tell the fences
@@ -54,7 +53,7 @@ module _ (w : ℕ) (h : w < 2 ^ 64) where
 
 -- ---- access_at
 module _ (w : ℕ) where
-  pub no-op : w % 2 ^ 7 ≡ 0x73 → bitAnd (w / 2 ^ 12) 3 ≡ 0 → refusal (numberOf Unknown) ≡ accessAt w
+  pub no-op : w % 2 ^ 7 ≡ 0x73 → bitAnd (w / 2 ^ 12) 3 ≡ 0 → refusal 1 ≡ accessAt w
   no-op e z = sym (at-no-op w e (low-two w ∙ sym (mask-field w 12 2) ∙ z))
 
   pub some-code : (bitAnd (w / 2 ^ 12) 3 ≡ 0 → ⊥) → (1 ≤ bitAnd (w / 2 ^ 12) 3) × (bitAnd (w / 2 ^ 12) 3 ≤ 3)

@@ -1,3 +1,2 @@
 pub mod Forms
 pub mod System
-pub mod Grounds

@@ -1,5 +1,5 @@
--- The SYSTEM reading in three layers: what a word is by its fields alone; what a profile makes of that; and the two put together. It is document
--- 01's "Reading a SYSTEM word".
+-- What a SYSTEM word is by its fields alone, and which of that a profile allows: document 01's "Reading a SYSTEM word", but for the typed
+-- instruction.
 use mathlib.Core.Bool.{Bool, true, false, _&&_, _||_, not, cond}
 use mathlib.Core.Path.{_≡_}
 use mathlib.Core.List.{List, [], _∷_}
@@ -8,12 +8,8 @@ use lib.Dec.{eqb, ltb}
 use lib.ListN.{getD}
 use Rattle.utils.specs.Field.{fld}
 use Rattle.utils.specs.declared.Code.the-variants.{Is as IsCode}
-use Rattle.csr_addresses.specs.declared.Csr.{Csr}
-use Rattle.registers.specs.declared.Register.{Register}
-use Rattle.csrs.specs.declared.CsrLookup.{CsrLookup}
-use Rattle.csrs.specs.declared.CsrLookup.the-variants.{Found, Missing}
 use Rattle.profiles.specs.declared.Profile.{Profile}
-use Rattle.csrs.specs.Gates.{decodeCsrDef, available}
+use Rattle.csrs.specs.Gates.{available}
 use Rattle.forms.specs.Layout.{Operand, imm, rd, rs1, rs2, funct, csr, short}
 use Rattle.forms.specs.Answer.{Answer, value, refusal}
 use Rattle.forms.specs.Meaning.{Meaning, readOf, bitOf}
@@ -22,20 +18,10 @@ use Rattle.system_decoder.specs.declared.CsrOp.{CsrOp}
 use Rattle.system_decoder.specs.declared.CsrOp.the-variants.{Write, Set, Clear}
 use Rattle.system_decoder.specs.declared.Fence.{Fence}
 use Rattle.system_decoder.specs.declared.Fence.the-variants.{Vma, Vvma, Gvma}
-use Rattle.system_decoder.specs.declared.IllegalInst.{IllegalInst}
-use Rattle.system_decoder.specs.declared.IllegalInst.the-variants.{Wfi, Csrrw, Csrrs, Csrrc, Csrrwi, Csrrsi, Csrrci, Mret, Sret, Sfencevma, Hfencevvma, Hfencegvma}
-use Rattle.system_decoder.specs.declared.IllegalRead.{IllegalRead}
-use Rattle.system_decoder.specs.declared.IllegalRead.the-variants.{Inst, Unknown, InvalidCsrOp}
 use Rattle.system_decoder.specs.declared.Shaped.{Shaped}
 use Rattle.system_decoder.specs.declared.Shaped.the-variants.{Is, Refused}
 use Rattle.system_decoder.specs.declared.Shape.{Shape}
 use Rattle.system_decoder.specs.declared.Shape.the-variants.{Wfi as wfi, Mret as mret, Sret as sret, Fence as fence, Access as access}
-
--- document 01's number for each answer; 0 is no refusal
-abbrev pub numberOf : IllegalRead → ℕ
-numberOf (Inst i) = 0
-numberOf Unknown = 1
-numberOf InvalidCsrOp = 2
 
 -- ---- a word by its fields alone: no profile, and an address where an instruction has a register
 -- (the code's `Shape`; an access says whether it is immediate, the address, rd, and rs1 or uimm)
@@ -106,9 +92,9 @@ operandsOf sret = operands (formNumber sret) 0 0 0 0
 operandsOf (fence f a b) = operands (formNumber (fence f a b)) 0 a b 0
 operandsOf (access o m a d x) = operands (formNumber (access o m a d x)) d x 0 a
 
--- a word that has no form is unknown; a shape that has none has a register above 31
+-- a word that has no form is refused with 1, `Unknown`; a shape that has none has a register above 31
 abbrev pub meaning : Meaning Shape
-meaning = record { make = λ env. getD (shapes env) (env funct) wfi; ops = operandsOf; code = λ s. IsCode 0; is-short = λ s. false; reading-refusal = λ w. numberOf Unknown; writing-refusal = λ s. 6 }
+meaning = record { make = λ env. getD (shapes env) (env funct) wfi; ops = operandsOf; code = λ s. IsCode 0; is-short = λ s. false; reading-refusal = λ w. 1; writing-refusal = λ s. 6 }
 
 -- CSR forms ignore bits above 31
 unfoldable pub accessAt : ℕ → Answer Shape
@@ -161,38 +147,3 @@ legalDef p mret = true
 legalDef p sret = true
 legalDef p (fence f a b) = true
 legalDef p (access o m a d x) = not (barredDef a (always o) x) && available p a
-
-abbrev pub register : ℕ → Register
-register n = record { 0 = n }
-
-abbrev pub instOf : CsrOp → Bool → Csr → ℕ → ℕ → IllegalInst
-instOf Write false c d x = Csrrw c (register d) (register x)
-instOf Set false c d x = Csrrs c (register d) (register x)
-instOf Clear false c d x = Csrrc c (register d) (register x)
-instOf Write true c d x = Csrrwi c (register d) x
-instOf Set true c d x = Csrrsi c (register d) x
-instOf Clear true c d x = Csrrci c (register d) x
-
-abbrev pub fenceOf : Fence → ℕ → ℕ → IllegalInst
-fenceOf Vma a b = Sfencevma (register a) (register b)
-fenceOf Vvma a b = Hfencevvma (register a) (register b)
-fenceOf Gvma a b = Hfencegvma (register a) (register b)
-
-abbrev pub foundDef : CsrLookup → CsrOp → Bool → ℕ → ℕ → IllegalRead
-foundDef (Found c) o m d x = Inst (instOf o m c d x)
-foundDef Missing o m d x = InvalidCsrOp
-
-abbrev pub instAt : Profile → Shape → IllegalRead
-instAt p wfi = Inst Wfi
-instAt p mret = Inst Mret
-instAt p sret = Inst Sret
-instAt p (fence f a b) = Inst (fenceOf f a b)
-instAt p (access o m a d x) = cond (barredDef a (always o) x) InvalidCsrOp (foundDef (decodeCsrDef p a) o m d x)
-
--- ---- the reading
-abbrev pub readShape : Profile → Answer Shape → IllegalRead
-readShape p (value s) = instAt p s
-readShape p (refusal n) = Unknown
-
-unfoldable pub illegalDef : Profile → ℕ → IllegalRead
-illegalDef p w = readShape p (shapeAt w)

@@ -1,5 +1,5 @@
-// RISC-V instruction encoder: the way back from the SYSTEM reading of the crate `system_decoder`. An instruction may hold any numbers; one
-// that has no word is refused with document 01's numbers.
+// RISC-V instruction encoder: the way back from the crate `system_decoder`. A shape may hold any numbers; one that has no word is refused
+// with document 01's numbers.
 ghost use mathlib.Core.Path.{_≡_};
 ghost use mathlib.Core.Bool.{Bool};
 ghost use Prim.Native.Nat.{_*_, _^_};
@@ -8,27 +8,13 @@ ghost use Rattle.forms.specs.Answer.{numberIn};
 ghost use Rattle.forms.specs.Meaning.{writeOf};
 ghost use Rattle.system_decoder.specs.Forms.{funct7, system};
 ghost use Rattle.system_decoder.specs.System.{Low, funct3, meaning};
-ghost use Rattle.system_encoder.specs.System.{checkedDef, accessTo, ownShape, writeShape, encodeIllegalDef};
-use csr_addresses::Csr;
-use csr_addresses::Idx;
+ghost use Rattle.system_encoder.specs.System.{checkedDef, writeShape};
 use csrs::CsrLookup;
 use forms::Wrote;
 use profiles::Profile;
-use registers::Register;
 use system_decoder::CsrOp;
 use system_decoder::Fence;
-use system_decoder::IllegalInst;
 use system_decoder::Shape;
-
-// The address of a register that has none: twelve bits hold no such number.
-const NO_ADDRESS: usize = 0x1000;
-
-// The word of a privileged instruction under a profile.
-pub fn encode_illegal_instruction(ctx: Profile, inst: IllegalInst) -> Wrote
-    ensures { λ r. ⌜ r ≡ encodeIllegalDef ctx inst ⌝ }
-{
-    encode_shape(ctx, own_shape(inst))
-}
 
 // The word of a shape that may hold any numbers, or refusal 6, 7 or 8.
 pub fn encode_shape(ctx: Profile, shape: Shape) -> Wrote
@@ -39,53 +25,6 @@ pub fn encode_shape(ctx: Profile, shape: Shape) -> Wrote
         return Wrote::Refused(number);
     }
     Wrote::Word(word_of(shape))
-}
-
-// An instruction's shape, whatever its numbers are.
-pub fn own_shape(inst: IllegalInst) -> Shape
-    ensures { λ r. ⌜ r ≡ ownShape inst ⌝ }
-{
-    match inst {
-        IllegalInst::Wfi => Shape::Wfi,
-        IllegalInst::Csrrw { csr, rd, rs1 } => access_to(CsrOp::Write, false, csr, rd, rs1.0),
-        IllegalInst::Csrrs { csr, rd, rs1 } => access_to(CsrOp::Set, false, csr, rd, rs1.0),
-        IllegalInst::Csrrc { csr, rd, rs1 } => access_to(CsrOp::Clear, false, csr, rd, rs1.0),
-        IllegalInst::Csrrwi { csr, rd, uimm } => access_to(CsrOp::Write, true, csr, rd, uimm),
-        IllegalInst::Csrrsi { csr, rd, uimm } => access_to(CsrOp::Set, true, csr, rd, uimm),
-        IllegalInst::Csrrci { csr, rd, uimm } => access_to(CsrOp::Clear, true, csr, rd, uimm),
-        IllegalInst::Mret => Shape::Mret,
-        IllegalInst::Sret => Shape::Sret,
-        IllegalInst::Sfencevma { rs1, rs2 } => fence_with(Fence::Vma, rs1, rs2),
-        IllegalInst::Hfencevvma { rs1, rs2 } => fence_with(Fence::Vvma, rs1, rs2),
-        IllegalInst::Hfencegvma { rs1, rs2 } => fence_with(Fence::Gvma, rs1, rs2),
-    }
-}
-
-// A CSR form; `src` is the number of rs1, or uimm.
-fn access_to(op: CsrOp, imm: bool, csr: Csr, rd: Register, src: usize) -> Shape
-    ensures { λ r. ⌜ r ≡ accessTo op imm csr (rd .0) src ⌝ }
-{
-    let csr = match csr.idx() {
-        Idx::At(csr_id) => csr_id,
-        Idx::Refused(_) => NO_ADDRESS,
-    };
-    Shape::Access {
-        op,
-        imm,
-        csr,
-        rd: rd.0,
-        src,
-    }
-}
-
-fn fence_with(fence: Fence, rs1: Register, rs2: Register) -> Shape
-    ensures { λ r. ⌜ r ≡ Shape.Fence fence (rs1 .0) (rs2 .0) ⌝ }
-{
-    Shape::Fence {
-        fence,
-        rs1: rs1.0,
-        rs2: rs2.0,
-    }
 }
 
 // Why the profile does not let a shape that may hold any numbers be written, 0 where it does: what a word, a log record and a line of

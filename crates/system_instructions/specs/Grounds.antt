@@ -7,8 +7,8 @@ use Prim.Native.Nat.{ℕ, _%_, _^_}
 use Rattle.utils.specs.Field.{fld}
 use Rattle.profiles.specs.declared.Profile.{Profile}
 use Rattle.csrs.specs.Gates.{available}
-use Rattle.system_decoder.specs.declared.IllegalRead.the-variants.{InvalidCsrOp}
-use Rattle.system_decoder.specs.System.{illegalDef, numberOf}
+use Rattle.system_instructions.specs.declared.IllegalRead.the-variants.{InvalidCsrOp}
+use Rattle.system_instructions.specs.Instruction.{illegalDef, numberOf}
 
 -- low seven bits 0x73, bits 13:12 not zero
 abbrev pub CsrForm : ℕ → Type 0

@@ -1,10 +1,10 @@
--- `system_encoder::access_to` meets its contract: each arm knows what `idx` gave. Assumes nothing.
+-- `system_instructions::access_to` meets its contract: each arm knows what `idx` gave. Assumes nothing.
 use Rattle.utils.proofs.Prelude.{sym, ap, _∙_, needs}
 use Rattle.csr_addresses.specs.declared.Idx.{Idx}
 use Rattle.system_decoder.specs.declared.Shape.the-variants.{Access as access}
-use Rattle.system_encoder.specs.System.{placeOf}
-use Rattle.system_encoder.proofs.access_to.Statement.{statement}
-use Rattle.system_encoder.proofs.access_to.Tie as tie
+use Rattle.system_instructions.specs.Instruction.{placeOf}
+use Rattle.system_instructions.proofs.access_to.Statement.{statement}
+use Rattle.system_instructions.proofs.access_to.Tie as tie
 
 pub access-to-spec : {M : Type 1} → statement M
 access-to-spec =

@@ -1,7 +1,7 @@
--- `system_decoder::access_of` meets its contract: the branch knows whether it is immediate, and each arm the operation. Assumes nothing.
+-- `system_instructions::access_of` meets its contract: the branch knows whether it is immediate, and each arm the operation. Assumes nothing.
 use Rattle.utils.proofs.Prelude.{needs}
-use Rattle.system_decoder.proofs.access_of.Statement.{statement}
-use Rattle.system_decoder.proofs.access_of.Tie as tie
+use Rattle.system_instructions.proofs.access_of.Statement.{statement}
+use Rattle.system_instructions.proofs.access_of.Tie as tie
 
 pub access-of-spec : {M : Type 1} → statement M
 access-of-spec =

@@ -1,12 +1,13 @@
--- `system_decoder::decode_csr_access` meets its contract: each exit knows the test and the look-up. Assumes nothing.
+-- `system_instructions::decode_csr_access` meets its contract: each exit knows the test and the look-up. Assumes nothing.
 use Rattle.utils.proofs.Prelude.{_≡_, refl, sym, ap, _∙_, Bool, cond, needs}
 use Rattle.csrs.specs.declared.CsrLookup.{CsrLookup}
 use Rattle.csrs.specs.Gates.{decodeCsrDef}
-use Rattle.system_decoder.specs.declared.IllegalRead.the-variants.{Inst, InvalidCsrOp}
+use Rattle.system_instructions.specs.declared.IllegalRead.the-variants.{Inst, InvalidCsrOp}
 use Rattle.system_decoder.specs.declared.Shape.the-variants.{Access as access}
-use Rattle.system_decoder.specs.System.{barredDef, foundDef, instAt}
-use Rattle.system_decoder.proofs.decode_csr_access.Statement.{statement}
-use Rattle.system_decoder.proofs.decode_csr_access.Tie as tie
+use Rattle.system_decoder.specs.System.{barredDef}
+use Rattle.system_instructions.specs.Instruction.{foundDef, instAt}
+use Rattle.system_instructions.proofs.decode_csr_access.Statement.{statement}
+use Rattle.system_instructions.proofs.decode_csr_access.Tie as tie
 
 -- what follows from the test's answer b and from what the look-up found
 abbrev Answers : tie.Start → Bool → CsrLookup → Type 0

@@ -1,7 +1,7 @@
--- `system_decoder::immediate_of` meets its contract: each arm knows the operation. Assumes nothing.
+-- `system_instructions::immediate_of` meets its contract: each arm knows the operation. Assumes nothing.
 use Rattle.utils.proofs.Prelude.{needs}
-use Rattle.system_decoder.proofs.immediate_of.Statement.{statement}
-use Rattle.system_decoder.proofs.immediate_of.Tie as tie
+use Rattle.system_instructions.proofs.immediate_of.Statement.{statement}
+use Rattle.system_instructions.proofs.immediate_of.Tie as tie
 
 pub immediate-of-spec : {M : Type 1} → statement M
 immediate-of-spec =

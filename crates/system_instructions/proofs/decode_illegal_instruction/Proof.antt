@@ -1,9 +1,10 @@
--- `system_decoder::decode_illegal_instruction` meets its contract: each arm knows the shape. Assumes nothing.
+-- `system_instructions::decode_illegal_instruction` meets its contract: each arm knows the shape. Assumes nothing.
 use Rattle.utils.proofs.Prelude.{sym, ap, _∙_, needs}
-use Rattle.system_decoder.specs.System.{shapeIn, readShape, illegalDef}
+use Rattle.system_decoder.specs.System.{shapeIn}
+use Rattle.system_instructions.specs.Instruction.{readShape, illegalDef}
 use Rattle.system_decoder.specs.declared.Shaped.{Shaped}
-use Rattle.system_decoder.proofs.decode_illegal_instruction.Statement.{statement}
-use Rattle.system_decoder.proofs.decode_illegal_instruction.Tie as tie
+use Rattle.system_instructions.proofs.decode_illegal_instruction.Statement.{statement}
+use Rattle.system_instructions.proofs.decode_illegal_instruction.Tie as tie
 
 pub decode-illegal-instruction-spec : {M : Type 1} → statement M
 unfolding illegalDef

@@ -1,9 +1,9 @@
--- `system_decoder::instruction_of` meets its contract: each arm knows the shape. Assumes nothing.
+-- `system_instructions::instruction_of` meets its contract: each arm knows the shape. Assumes nothing.
 use Rattle.utils.proofs.Prelude.{sym, ap, _∙_, needs}
-use Rattle.system_decoder.specs.declared.IllegalRead.the-variants.{Inst}
-use Rattle.system_decoder.specs.System.{instAt}
-use Rattle.system_decoder.proofs.instruction_of.Statement.{statement}
-use Rattle.system_decoder.proofs.instruction_of.Tie as tie
+use Rattle.system_instructions.specs.declared.IllegalRead.the-variants.{Inst}
+use Rattle.system_instructions.specs.Instruction.{instAt}
+use Rattle.system_instructions.proofs.instruction_of.Statement.{statement}
+use Rattle.system_instructions.proofs.instruction_of.Tie as tie
 
 pub instruction-of-spec : {M : Type 1} → statement M
 instruction-of-spec =

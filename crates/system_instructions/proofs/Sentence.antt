@@ -7,12 +7,13 @@ use Rattle.csrs.specs.declared.CsrLookup.{CsrLookup, the-variants.Found, the-va
 use Rattle.profiles.specs.declared.Profile.{Profile}
 use Rattle.csrs.specs.Gates.{decodeCsrDef, isFound, available}
 use Rattle.utils.proofs.Tests.{both, join}
 use Rattle.system_decoder.specs.declared.CsrOp.{CsrOp, the-variants.Write, the-variants.Set, the-variants.Clear}
-use Rattle.system_decoder.specs.declared.IllegalRead.the-variants.{InvalidCsrOp}
+use Rattle.system_instructions.specs.declared.IllegalRead.the-variants.{InvalidCsrOp}
 use Rattle.system_decoder.specs.declared.Shape.the-variants.{Access as access}
-use Rattle.system_decoder.specs.System.{opCode, funct3, readOnly, always, barredDef, foundDef, instAt, readShape, illegalDef, numberOf}
-use Rattle.system_decoder.specs.Grounds.{CsrForm, address, Writes, ReadOnly, Grounds, Invalid}
+use Rattle.system_decoder.specs.System.{opCode, funct3, readOnly, always, barredDef}
+use Rattle.system_instructions.specs.Instruction.{foundDef, instAt, readShape, illegalDef, numberOf}
+use Rattle.system_instructions.specs.Grounds.{CsrForm, address, Writes, ReadOnly, Grounds, Invalid}
 use Rattle.system_decoder.proofs.SystemForms.{past-wholes, unfit-csr, at-access, one-of-six, op-of, low-two}
 
 -- ---- the sentence
 -- k is bits 13:12, x the rs1 field

@@ -1,8 +1,8 @@
--- `system_encoder::own_shape` meets its contract: each arm knows the instruction. Assumes nothing.
+-- `system_instructions::own_shape` meets its contract: each arm knows the instruction. Assumes nothing.
 use Rattle.utils.proofs.Prelude.{sym, ap, _∙_, needs}
-use Rattle.system_encoder.specs.System.{ownShape}
-use Rattle.system_encoder.proofs.own_shape.Statement.{statement}
-use Rattle.system_encoder.proofs.own_shape.Tie as tie
+use Rattle.system_instructions.specs.Instruction.{ownShape}
+use Rattle.system_instructions.proofs.own_shape.Statement.{statement}
+use Rattle.system_instructions.proofs.own_shape.Tie as tie
 
 pub own-shape-spec : {M : Type 1} → statement M
 own-shape-spec =

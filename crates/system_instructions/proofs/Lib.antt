@@ -1,0 +1,4 @@
+pub mod Legal
+pub mod System
+pub mod Sentence
+pub mod Numbers

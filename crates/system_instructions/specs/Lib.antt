@@ -1,0 +1,2 @@
+pub mod Instruction
+pub mod Grounds
