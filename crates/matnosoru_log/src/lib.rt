@@ -3,7 +3,8 @@ ghost use mathlib.Core.Path.{_≡_};
 ghost use lib.ListN.{length};
 ghost use Rattle.profiles.specs.Profile.{emptyProfile};
 ghost use Rattle.log_records.specs.declared.Record.the-variants.{Refusal, Hart};
-ghost use Rattle.log_records.specs.Record.{recordDef, writtenDef, writtenOut};
+ghost use Rattle.log_records.specs.Record.{recordDef};
+ghost use Rattle.log_writer.specs.Written.{writtenDef, writtenOut};
 ghost use Rattle.log_reader.specs.Read.{parse};
 ghost use Rattle.log_steps.specs.Next.{recordLength};
 ghost use Rattle.log_steps.specs.Lines.{lineDef, lineOut};
@@ -79,5 +80,5 @@ fn put_record(record: Record, out: &mut [u8]) -> u64
     ensures { λ r. ⌜ r ≡ length-or (writtenDef (recordDef emptyProfile «record») (length (now (out .entry)))) ⌝ }
     ensures { λ _. ⌜ now (out .exit) ≡ writtenOut (recordDef emptyProfile «record») (now (out .entry)) ⌝ }
 {
-    abi::length_of(log_records::write_record(Profile::from_flags(0, 0), record, out))
+    abi::length_of(log_writer::write_record(Profile::from_flags(0, 0), record, out))
 }

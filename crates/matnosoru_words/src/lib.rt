@@ -3,7 +3,7 @@ ghost use mathlib.Core.Path.{_≡_};
 ghost use Prim.Native.Nat.{_%_, _≤_};
 ghost use lib.ListN.{length};
 ghost use Rattle.octets.specs.Bytes.{leBytes, emitted, emittedOut};
-ghost use Rattle.log_records.specs.Record.{writtenDef, writtenOut};
+ghost use Rattle.log_writer.specs.Written.{writtenDef, writtenOut};
 ghost use Rattle.log_kinds.specs.Length.{lengthOf};
 ghost use Rattle.traps.specs.declared.Reading.the-variants.{System, Load, Store};
 ghost use Rattle.traps.specs.Trapped.{trappedDef};

@@ -4,7 +4,8 @@ use Rattle.profiles.specs.declared.Profile.{Profile}
 use Rattle.profiles.specs.Profile.{emptyProfile}
 use Rattle.forms.specs.Answer.{Answer}
 use Rattle.log_records.specs.declared.Record.the-variants.{Hart}
-use Rattle.log_records.specs.Record.{recordDef, writtenDef, writtenOut}
+use Rattle.log_records.specs.Record.{recordDef}
+use Rattle.log_writer.specs.Written.{writtenDef, writtenOut}
 use Rattle.abi.specs.Abi.{length-or}
 use Rattle.matnosoru_log.proofs.matnosoru_write_profile.Statement.{statement}
 use Rattle.matnosoru_log.proofs.matnosoru_write_profile.Tie as tie

@@ -2,7 +2,8 @@
 use Rattle.utils.proofs.Prelude.{ap, _∙_, List, ℕ, length, now, needs}
 use Rattle.profiles.specs.declared.Profile.{Profile}
 use Rattle.forms.specs.Answer.{Answer}
-use Rattle.log_records.specs.Record.{recordDef, writtenDef, writtenOut}
+use Rattle.log_records.specs.Record.{recordDef}
+use Rattle.log_writer.specs.Written.{writtenDef, writtenOut}
 use Rattle.abi.specs.Abi.{length-or}
 use Rattle.matnosoru_log.proofs.put_record.Statement.{statement}
 use Rattle.matnosoru_log.proofs.put_record.Tie as tie
