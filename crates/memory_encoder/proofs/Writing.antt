@@ -1,8 +1,7 @@
 -- What is known of a load or a store settles its form, and the word of its immediate's code: for any forms that the tables may have. Assumes nothing.
-use Rattle.utils.proofs.Prelude.{_≡_, refl, sym, ap, _∙_, subst, ⊎-elim, Bool, true, false, _||_, not, cond, List, [], _∷_, ℕ, _<_, arith, eqb, ltb, getD}
+use Rattle.utils.proofs.Prelude.{_≡_, refl, sym, ap, _∙_, subst, Bool, true, false, _||_, not, cond, List, [], _∷_, ℕ, _<_, arith, eqb, ltb, getD}
 use Rattle.utils.proofs.Prelude.{ℤ, mag, w64, SFits, toZ, ofZ, toZ-ofZ, lt-ltb, ltb-true}
 use denote.Enum.Declared.{tagOf}
-use types.Run.{OneOf}
 use Rattle.utils.specs.Signed.{twos, codeDef}
 use Rattle.utils.specs.declared.Code.{Code, the-variants.Is, the-variants.Out}
 use Rattle.utils.specs.declared.Width.{Width, the-variants.Byte, the-variants.Byte2, the-variants.Byte4, the-variants.Byte8}
@@ -91,9 +90,6 @@ found L word z fits {c} {k} e q p = p ∙ same k (sym is ∙ q) ∙ ap (λ (v : 
 pub all-codes : (L : Layout) → ((n : ℕ) → holds L imm n ≡ ltb n 4096) → (z : ℤ) → codeDef 2048 z ≡ within L (codeDef 2048 z)
 all-codes L h z = on (λ (k : Code). k ≡ within L k) (ltb (mag z) 2048) (λ e. simp (h, lt-ltb _ _ (twos-lt 2048 z (ltb-true _ _ e)))) (λ _. refl)
 
--- ---- the last arm of a match on the width has the first two
-pub narrow : (len : Width) → OneOf (0 ∷ 1 ∷ []) (tagOf the-type len) → sizeOf len < 2
-narrow len q = let e = size-tag len in ⊎-elim (λ p. omega arith) (λ p. omega arith) q
-  where
-    size-tag : (l : Width) → sizeOf l ≡ tagOf the-type l
-    size-tag = elim [ Byte ↦ refl | Byte2 ↦ refl | Byte4 ↦ refl | Byte8 ↦ refl ]
+-- ---- a width's place in a match
+pub size-tag : (len : Width) → sizeOf len ≡ tagOf the-type len
+size-tag = elim [ Byte ↦ refl | Byte2 ↦ refl | Byte4 ↦ refl | Byte8 ↦ refl ]

@@ -1,5 +1,5 @@
 -- `memory_encoder::encode_compressed` meets its contract: the registers and the width choose the form, and the immediate is tested by the form. Assumes nothing.
-use Rattle.utils.proofs.Prelude.{_≡_, refl, sym, ap, _∙_, true, false, [], _∷_, ℕ, _+_, arith, needs}
+use Rattle.utils.proofs.Prelude.{_≡_, refl, sym, ap, _∙_, ⊎-elim, true, false, [], _∷_, ℕ, _+_, arith, needs}
 use Rattle.utils.specs.declared.Code.{Code}
 use Rattle.registers.proofs.Numbers.{are-valid}
 use Rattle.forms.specs.declared.Wrote.{Wrote, the-variants.Word, the-variants.Refused}
@@ -13,7 +13,7 @@ use Rattle.memory_decoder.specs.Funct3.{sizeOf}
 use Rattle.memory_decoder.specs.Load as Load
 use Rattle.memory_decoder.specs.Store as Store
 use Rattle.memory_encoder.specs.LoadStore.{Compressed, operands}
-use Rattle.memory_encoder.proofs.Writing.{short-layouts, anything, numbered, putCode, found, narrow}
+use Rattle.memory_encoder.proofs.Writing.{short-layouts, anything, numbered, putCode, found, size-tag}
 use Rattle.memory_encoder.proofs.encode_compressed.Statement.{statement}
 use Rattle.memory_encoder.proofs.encode_compressed.Tie as tie
 
@@ -82,5 +82,7 @@ encode-compressed-spec =
     (λ c.
     let s = c .before .before .before in
     let a = s .args in
-    let h = narrow (a .len) (c .match .keys3) in
-    refused s (short-layouts (a .reg) (a .base) (a .imm) (a .len) anything anything (such (is 1 1 0b0 ∷ [])) tt tt (omega arith, tt) refl refl)))
+    let e = size-tag (a .len) in
+    refused s
+    (short-layouts (a .reg) (a .base) (a .imm) (a .len) anything anything (such (is 1 1 0b0 ∷ []))
+    tt tt (⊎-elim (λ p. omega arith) (λ p. omega arith) (c .match .keys3), tt) refl refl)))
