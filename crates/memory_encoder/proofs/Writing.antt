@@ -1,5 +1,5 @@
 -- What is known of a load or a store settles its form, and the word of its immediate's code: for any forms that the tables may have. Assumes nothing.
-use Rattle.utils.proofs.Prelude.{_≡_, refl, sym, ap, _∙_, subst, Bool, true, false, _||_, not, cond, List, [], _∷_, ℕ, _<_, arith, eqb, ltb, getD}
+use Rattle.utils.proofs.Prelude.{_≡_, refl, sym, ap, _∙_, Bool, true, false, _||_, not, cond, List, [], _∷_, ℕ, _<_, arith, eqb, ltb, getD}
 use Rattle.utils.proofs.Prelude.{ℤ, mag, w64, SFits, toZ, ofZ, toZ-ofZ, lt-ltb, ltb-true}
 use denote.Enum.Declared.{tagOf}
 use Rattle.utils.specs.Signed.{twos, codeDef}
@@ -12,7 +12,7 @@ use Rattle.registers.specs.Numbers.{areValid}
 use Rattle.registers.proofs.Numbers.{not-valid}
 use Rattle.forms.specs.declared.Wrote.{Wrote, the-variants.Word, the-variants.Refused}
 use Rattle.forms.specs.Layout.{Layout, Operand, imm, rd, rs1, rs2, funct, csr, short, code, all, holds}
-use Rattle.forms.specs.Meaning.{Meaning, bitOf, within, put, writeOf, writeAs}
+use Rattle.forms.specs.Meaning.{bitOf, within, put, writeOf, writeAs}
 use Rattle.forms.specs.Sound.{first}
 use Rattle.forms.proofs.Codes.{within-is, code-twos}
 use Rattle.forms.proofs.Choices.{Told, exactly, such, KnownAs, picks, drops, by-operands}
@@ -31,30 +31,16 @@ told y r b f s x = cond (eqb (code x) (code y)) r (getD (such [] ∷ exactly 0 �
 abbrev Settles : (Operand → Told) → List Layout → Type 0
 Settles ks T = all (λ L. drops ks L || picks ks L) T ≡ true
 
--- what an instruction of such operands is written as
-abbrev written : {I : Type 0} → List Layout → Meaning I → (Operand → Told) → I → Wrote
-written T S ks i = writeAs S i (first (λ L. not (drops ks L)) T (S .writing-refusal i))
-
 module _ (r b f s : Told) where
   pub load-layout : (i : LoadInstr) → KnownAs (i .rd .0) r → KnownAs (i .rs1 .0) b → KnownAs (funct3Of (i .len) (i .«is_unsigned»)) f → KnownAs (bitOf (i .«is_compressed»)) s
-      → Settles (told rd r b f s) loads → writeOf loads Load.meaning i ≡ written loads Load.meaning (told rd r b f s) i
+      → Settles (told rd r b f s) loads → writeOf loads Load.meaning i ≡ writeAs Load.meaning i (first (λ L. not (drops (told rd r b f s) L)) loads (Load.writing-refusal i))
   load-layout i hr hb hf hs e =
       by-operands loads Load.meaning refl i (told rd r b f s) (elim [ imm ↦ tt | rd ↦ hr | rs1 ↦ hb | rs2 ↦ refl | funct ↦ hf | csr ↦ refl | short ↦ hs ]) e
 
   pub store-layout : (i : StoreInstr) → KnownAs (i .rs2 .0) r → KnownAs (i .rs1 .0) b → KnownAs (sizeOf (i .len)) f → KnownAs (bitOf (i .«is_compressed»)) s
-      → Settles (told rs2 r b f s) stores → writeOf stores Store.meaning i ≡ written stores Store.meaning (told rs2 r b f s) i
+      → Settles (told rs2 r b f s) stores → writeOf stores Store.meaning i ≡ writeAs Store.meaning i (first (λ L. not (drops (told rs2 r b f s) L)) stores (Store.writing-refusal i))
   store-layout i hr hb hf hs e =
       by-operands stores Store.meaning refl i (told rs2 r b f s) (elim [ imm ↦ tt | rd ↦ refl | rs1 ↦ hb | rs2 ↦ hr | funct ↦ hf | csr ↦ refl | short ↦ hs ]) e
-
--- a compressed load and a compressed store, by the same facts; f is of the width
-module _ (x y : ℕ) (z : ℤ) (len : Width) (r b f : Told) (hr : KnownAs x r) (hb : KnownAs y b) (hf : KnownAs (sizeOf len) f) where
-  pub short-layouts : Settles (told rd r b f (exactly 1)) loads → Settles (told rs2 r b f (exactly 1)) stores
-      → (let i = Load.mk x y z len true false in writeOf loads Load.meaning i ≡ written loads Load.meaning (told rd r b f (exactly 1)) i)
-      × (let i = Store.mk x y z len true in writeOf stores Store.meaning i ≡ written stores Store.meaning (told rs2 r b f (exactly 1)) i)
-  short-layouts d e = (
-    load-layout r b f (exactly 1) (Load.mk x y z len true false) hr hb (subst (λ (n : ℕ). KnownAs n f) (omega arith) hf) refl d,
-    store-layout r b f (exactly 1) (Store.mk x y z len true) hr hb hf refl e,
-  )
 
 -- nothing is known
 abbrev pub anything : Told
