@@ -282,4 +282,6 @@ module _ {I : Type 0} (T : List Layout) (S : Meaning I) (ok : all good T ≡ tru
   pub by-facts : (w : ℕ) (fs : List Fact) → Known w fs → (settles fs T && clears fs rs) ≡ true → readOf T S w ≡ readAs S w (first (fits fs) T (numberKnown fs rs last))
   by-facts w fs h e =
       let t = both (settles fs T) (clears fs rs) e in
-      ap (readAs S w) (ap (first (readable w) T) (reading-refusal w ∙ number-known w fs h rs last (t .1)) ∙ settled (readable w) (shuts fs) (opens fs) (shut w fs h) (λ L g. opened w fs h L (constant L g)) T (numberKnown fs rs last) ok (t .0))
+      ap (readAs S w)
+      (ap (first (readable w) T) (reading-refusal w ∙ number-known w fs h rs last (t .1))
+      ∙ settled (readable w) (shuts fs) (opens fs) (shut w fs h) (λ L g. opened w fs h L (constant L g)) T (numberKnown fs rs last) ok (t .0))

@@ -7,7 +7,8 @@ use lib.Arith.{digits-lt}
 use lib.Pow.{pow-add, mod-pow-add}
 use Rattle.utils.proofs.Digits.{same-high, same-low}
 use Rattle.forms.specs.Layout.{Operand, imm, rd, rs1, rs2, funct, csr, short, others, code, all, every}
-use Rattle.forms.specs.Layout.{const, take, given, avoid, Layout, bits, place, width, matches, build, Source, from, lit, Piece, piece, insert, add, pieces, digit, gather, read, size, spares, readable, held, holds, chosen, fits, chain, constants, good}
+use Rattle.forms.specs.Layout.{const, take, given, avoid, Layout, bits, place, width, matches, build}
+use Rattle.forms.specs.Layout.{Source, from, lit, Piece, piece, insert, add, pieces, digit, gather, read, size, spares, readable, held, holds, chosen, fits, chain, constants, good}
 use Rattle.utils.proofs.Tests.{both, join, on}
 use Rattle.forms.proofs.Tests.{all-of}
 
