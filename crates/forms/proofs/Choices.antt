@@ -9,7 +9,8 @@ use Rattle.forms.specs.Meaning.{Meaning, writeAs, writeOf}
 use Rattle.forms.proofs.Tests.{all-by, not-any}
 use Rattle.forms.proofs.Laws.{linked, chained, holds-true}
 use Rattle.forms.proofs.Sound.{bits-fld, Has, spread-has, pieces-have}
-use Rattle.forms.proofs.Facts.{Fact, is, isnt, under, over, Known, ofFacts, tells, denies, known-has, tells-has, field-is, spread-rest, denies-not, is-told, is-denied, Off, off, offs, spare, spares-is, settled}
+use Rattle.forms.proofs.Facts.{Fact, is, isnt, under, over, Known, ofFacts, tells, denies, known-has, tells-has, field-is, spread-rest, denies-not}
+use Rattle.forms.proofs.Facts.{is-told, is-denied, Off, off, offs, spare, spares-is, settled}
 
 -- ---- what is known of an operand
 pub data Told : Type 0 where

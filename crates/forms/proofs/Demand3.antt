@@ -4,7 +4,8 @@ use Rattle.utils.proofs.Prelude.{_≡_, refl, sym, ap, _∙_, subst, Bool, true
 use Rattle.utils.proofs.Prelude.{lt-of-lt-of-le, getD, eqb-true, ltb-true, leb-true}
 use Rattle.utils.specs.declared.Code.the-variants.{Is, Out}
 use Rattle.forms.specs.declared.Wrote.the-variants.{Word}
-use Rattle.forms.specs.Layout.{Layout, Operand, imm, rd, rs1, rs2, funct, csr, short, code, all, good, every, Piece, piece, from, lit, pieces, place, gather, width, size, read, build, readable, chosen, holds}
+use Rattle.forms.specs.Layout.{Layout, Operand, imm, rd, rs1, rs2, funct, csr, short, code, all, good, every}
+use Rattle.forms.specs.Layout.{Piece, piece, from, lit, pieces, place, gather, width, size, read, build, readable, chosen, holds}
 use Rattle.forms.specs.Answer.{Answer, value, refusal}
 use Rattle.forms.specs.Sound.{first, distinct, sound}
 use Rattle.forms.specs.Meaning.{Meaning, FaithfulBelow, Agrees, Every, Faithful, listed, roomOf, within, put, readAs, readOf, writeAs, writeOf, lits, below, fitted, limited}

@@ -3,7 +3,8 @@ use Rattle.utils.proofs.Prelude.{_≡_, refl, sym, ap, _∙_, subst, Bool, true
 use Rattle.utils.proofs.Prelude.{eqb-true, eqb-false, not-true}
 use native.Mathlib.Nat.{div-one}
 use lib.Pow.{field, shr-shr, mod-mod-pow}
-use Rattle.forms.specs.Layout.{Layout, const, take, given, avoid, Operand, imm, others, all, bits, width, matches, build, read, spares, Piece, piece, from, lit, pieces, holds, readable, chosen, good}
+use Rattle.forms.specs.Layout.{Layout, const, take, given, avoid, Operand, imm, others, all, bits, width, matches, build, read, spares}
+use Rattle.forms.specs.Layout.{Piece, piece, from, lit, pieces, holds, readable, chosen, good}
 use Rattle.forms.specs.Answer.{Answer, value, refusal, numberIn}
 use Rattle.forms.specs.Sound.{first, any, Bit, bit, spread, ofWord, ofPieces, differs, clash, apart, distinct, sound}
 use Rattle.utils.proofs.Tests.{both, either, on}

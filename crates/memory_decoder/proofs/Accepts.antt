@@ -1,7 +1,7 @@
 -- Which words are accepted as a load or a store, and that none is accepted as both. Assumes nothing.
-use Rattle.utils.proofs.Prelude.{_≡_, refl, ap, ℕ, arith}
+use Rattle.utils.proofs.Prelude.{_≡_, refl, ap, ℕ}
 use Rattle.profiles.specs.declared.Profile.{Profile}
-use Rattle.forms.specs.Answer.{Answer, value, refusal}
+use Rattle.forms.specs.Answer.{value}
 use Rattle.forms.specs.Meaning.{readOf}
 use Rattle.forms.proofs.Accepts.{Words, accepted, not-both}
 use Rattle.memory_decoder.specs.Forms.{loads, stores}
@@ -13,15 +13,12 @@ use Rattle.memory_decoder.specs.declared.LoadInstr.{LoadInstr}
 use Rattle.memory_decoder.specs.declared.LoadRead.the-variants.{Load as ALoad}
 use Rattle.memory_decoder.specs.declared.StoreInstr.{StoreInstr}
 use Rattle.memory_decoder.specs.declared.StoreRead.the-variants.{Store as AStore}
+use Rattle.memory_decoder.proofs.Reading.{loading, storing}
 
 -- ---- an answer that is an instruction, and what it was read of
 pub load-form : (p : Profile) (w : ℕ) (i : LoadInstr) → loadDef p w ≡ ALoad i → readOf loads Load.meaning w ≡ value i
 unfolding loadDef
-load-form p w i = go (readOf loads Load.meaning w)
-  where
-    go : (k : Answer LoadInstr) → Load.answered k ≡ ALoad i → k ≡ value i
-    go (value x) q = cc
-    go (refusal n) q = let z : _≡_ {A = ℕ} 0 1 = cc in absurd (omega arith)
+load-form p w = loading .form (readOf loads Load.meaning w)
 
 pub form-load : (p : Profile) (w : ℕ) (i : LoadInstr) → readOf loads Load.meaning w ≡ value i → loadDef p w ≡ ALoad i
 unfolding loadDef
@@ -29,11 +26,7 @@ form-load p w i e = ap Load.answered e
 
 pub store-form : (p : Profile) (w : ℕ) (i : StoreInstr) → storeDef p w ≡ AStore i → readOf stores Store.meaning w ≡ value i
 unfolding storeDef
-store-form p w i = go (readOf stores Store.meaning w)
-  where
-    go : (k : Answer StoreInstr) → Store.answered k ≡ AStore i → k ≡ value i
-    go (value x) q = cc
-    go (refusal n) q = let z : _≡_ {A = ℕ} 0 1 = cc in absurd (omega arith)
+store-form p w = storing .form (readOf stores Store.meaning w)
 
 pub form-store : (p : Profile) (w : ℕ) (i : StoreInstr) → readOf stores Store.meaning w ≡ value i → storeDef p w ≡ AStore i
 unfolding storeDef

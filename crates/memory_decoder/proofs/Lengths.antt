@@ -1,11 +1,7 @@
 -- Going by the length of a word. Assumes nothing.
-use Rattle.utils.proofs.Prelude.{_≡_, ap, Bool, cond, ℕ, _%_, _^_, arith, eq-eqb, ne-eqb, eqb-true, eqb-false}
+use Rattle.utils.proofs.Prelude.{_≡_, ap, Bool, cond, ℕ, _%_, _^_, eq-eqb, ne-eqb, eqb-true, eqb-false}
 use Rattle.utils.proofs.Tests.{on}
 use Rattle.memory_decoder.specs.Access.{isLong}
-
--- an opcode of seven bits has the low two
-pub opcode-long : (w v : ℕ) → v % 2 ^ 2 ≡ 0b11 → w % 2 ^ 7 ≡ v → w % 2 ^ 2 ≡ 0b11
-opcode-long w v e q = omega arith
 
 module _ {R : Type 0} (w : ℕ) (x y : R) where
   pub if-long : w % 2 ^ 2 ≡ 0b11 → cond (isLong w) x y ≡ x

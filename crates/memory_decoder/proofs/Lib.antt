@@ -1,4 +1,4 @@
-pub mod Accepts
 pub mod Lengths
-pub mod Numbers
 pub mod Reading
+pub mod Accepts
+pub mod Numbers

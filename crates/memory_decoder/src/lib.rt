@@ -92,7 +92,7 @@ pub fn decode_compressed_load(ctx: Profile, raw: usize) -> LoadRead
 
 fn decode_register_based_compressed_load(ctx: Profile, raw: usize) -> LoadRead
     requires { ⌜ raw % 2 ^ 2 ≡ 0b00 ⌝ }
-    ensures { λ r. ⌜ r ≡ loadDef ctx raw ⌝ }
+    ensures { λ r. ⌜ r ≡ compressedLoadDef ctx raw ⌝ }
 {
     let func3 = (raw >> 13) & 0b111;
     let rd = compressed_register_at(raw, 2);
@@ -135,7 +135,7 @@ pub fn decode_compressed_store(ctx: Profile, raw: usize) -> StoreRead
 
 fn decode_register_based_compressed_store(ctx: Profile, raw: usize) -> StoreRead
     requires { ⌜ raw % 2 ^ 2 ≡ 0b00 ⌝ }
-    ensures { λ r. ⌜ r ≡ storeDef ctx raw ⌝ }
+    ensures { λ r. ⌜ r ≡ compressedStoreDef ctx raw ⌝ }
 {
     let func3 = (raw >> 13) & 0b111;
     let rs2 = compressed_register_at(raw, 2);

@@ -23,27 +23,14 @@ funct3-back f h =
     (λ e. simp (e, size-low) (omega (arith, leb-false 4 f e)))
 
 pub size-lt : (len : Width) → sizeOf len < 2 ^ 2
-size-lt Byte = omega arith
-size-lt Byte2 = omega arith
-size-lt Byte4 = omega arith
-size-lt Byte8 = omega arith
+size-lt = elim [ Byte ↦ omega arith | Byte2 ↦ omega arith | Byte4 ↦ omega arith | Byte8 ↦ omega arith ]
 
 pub funct3-lt : (len : Width) (u : Bool) → funct3Of len u < 2 ^ 3
-funct3-lt len false = omega (arith, size-lt len)
-funct3-lt len true = omega (arith, size-lt len)
+funct3-lt len = elim [ false ↦ omega (arith, size-lt len) | true ↦ omega (arith, size-lt len) ]
 
 pub size-forth : (len : Width) → widthOf (sizeOf len) ≡ len
-size-forth Byte = refl
-size-forth Byte2 = refl
-size-forth Byte4 = refl
-size-forth Byte8 = refl
+size-forth = elim [ Byte ↦ refl | Byte2 ↦ refl | Byte4 ↦ refl | Byte8 ↦ refl ]
 
-pub funct3-forth : (len : Width) (u : Bool) → (widthOf (funct3Of len u) ≡ len) × (leb 4 (funct3Of len u) ≡ u)
-funct3-forth Byte false = (refl, refl)
-funct3-forth Byte true = (refl, refl)
-funct3-forth Byte2 false = (refl, refl)
-funct3-forth Byte2 true = (refl, refl)
-funct3-forth Byte4 false = (refl, refl)
-funct3-forth Byte4 true = (refl, refl)
-funct3-forth Byte8 false = (refl, refl)
-funct3-forth Byte8 true = (refl, refl)
+pub funct3-forth : (u : Bool) (len : Width) → (widthOf (funct3Of len u) ≡ len) × (leb 4 (funct3Of len u) ≡ u)
+funct3-forth false = elim [ Byte ↦ (refl, refl) | Byte2 ↦ (refl, refl) | Byte4 ↦ (refl, refl) | Byte8 ↦ (refl, refl) ]
+funct3-forth true = elim [ Byte ↦ (refl, refl) | Byte2 ↦ (refl, refl) | Byte4 ↦ (refl, refl) | Byte8 ↦ (refl, refl) ]

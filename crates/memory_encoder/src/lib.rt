@@ -1,14 +1,11 @@
 // Loads and stores as words: the way back from the load and store readings of the crate `memory_decoder`. An instruction may hold any
 // numbers; one that has no word is refused with document 01's numbers.
 ghost use mathlib.Core.Path.{_≡_};
-ghost use mathlib.Core.Bool.{true};
-ghost use Prim.Native.Nat.{_<_};
-ghost use Rattle.utils.specs.Signed.{codeDef};
-ghost use Rattle.registers.specs.Numbers.{areValid};
+ghost use Prim.Native.Nat.{_<_, _≤_};
 ghost use Rattle.forms.specs.Layout.{build, rd};
 ghost use Rattle.memory_decoder.specs.Forms.{load, store, c-word, c-double};
 ghost use Rattle.memory_decoder.specs.Funct3.{sizeOf, funct3Of};
-ghost use Rattle.memory_encoder.specs.LoadStore.{encodeLoadDef, encodeStoreDef, Compressed, operands, stepped};
+ghost use Rattle.memory_encoder.specs.LoadStore.{encodeLoadDef, encodeStoreDef, Compressed, Stepped, operands};
 use forms::Wrote;
 use memory_decoder::LoadInstr;
 use memory_decoder::StoreInstr;
@@ -71,7 +68,7 @@ const HALF: u32 = 2048;
 // A compressed load or store of the register `reg`: `func3` is that of the 32-bit form, and the 64-bit form has the next. Both
 // registers are x8 to x15.
 fn encode_compressed(func3: usize, reg: usize, base: usize, imm: isize, len: Width) -> Wrote
-    requires { ⌜ (func3 < 7) × (areValid reg base ≡ true) ⌝ }
+    requires { ⌜ (func3 < 7) × ((reg ≤ 31) × (base ≤ 31)) ⌝ }
     ensures { λ r. ⌜ Compressed func3 reg base imm len r ⌝ }
 {
     if reg / 8 != 1 {
@@ -96,7 +93,7 @@ fn encode_compressed(func3: usize, reg: usize, base: usize, imm: isize, len: Wid
 // The code of an immediate that is a multiple of `step` below `limit`.
 fn offset(imm: isize, step: usize, limit: usize) -> Code
     requires { ⌜ 0 < step ⌝ }
-    ensures { λ r. ⌜ r ≡ stepped step limit (codeDef 2048 imm) ⌝ }
+    ensures { λ r. ⌜ Stepped step limit imm r ⌝ }
 {
     match utils::code_of(imm, HALF) {
         Code::Is(n) => if n % step != 0 {

@@ -1,9 +1,9 @@
 -- `memory_decoder::decode_register_based_compressed_store` meets its contract: each arm knows funct3, and so the form. Assumes nothing.
-use Rattle.utils.proofs.Prelude.{refl, _∙_, true, [], _∷_, needs}
+use Rattle.utils.proofs.Prelude.{refl, [], _∷_, needs}
+use Rattle.utils.proofs.Signed.{kept}
 use Rattle.forms.proofs.Facts.{is, isnt, seen, unseen}
 use Rattle.memory_decoder.specs.Store.{storeDef}
-use Rattle.utils.proofs.Signed.{kept}
-use Rattle.memory_decoder.proofs.Reading.{storing, reads, same-store}
+use Rattle.memory_decoder.proofs.Reading.{storing, short-reads}
 use Rattle.memory_decoder.proofs.decode_register_based_compressed_store.Statement.{statement}
 use Rattle.memory_decoder.proofs.decode_register_based_compressed_store.Tie as tie
 
@@ -14,23 +14,21 @@ decode-register-based-compressed-store-spec =
     (tie.spec
     (λ c κs. search needs) (λ c κs. search needs) (λ c κs. search needs) (λ c κs. search needs)
     (λ c.
-    let arm = c .before in
-    let base = arm .before in
-    let reg = base .before in
-    let w = reg .before .args .raw in
+    let base = c .before .before in
+    let s = base .before .before in
+    let w = s .args .raw in
     let n = c .compressed-word-imm in
-    same-store true (reg .compressed-register-at .ensures) (base .compressed-register-at2 .ensures) (kept (record { sfits = n .ok }) (n .ensures)) refl
-    ∙ reads storing w (is 0 2 0b00 ∷ is 13 3 0b110 ∷ []) (reg .before .pre, (seen w 13 3 (arm .match .keys1), tt)) refl)
+    rw (base .before .compressed-register-at .ensures, base .compressed-register-at2 .ensures, kept (record { sfits = n .ok }) (n .ensures))
+    (short-reads storing w (is 0 2 0b00 ∷ is 13 3 0b110 ∷ []) (s .pre, (seen w 13 3 (c .before .match .keys1), tt)) refl refl))
     (λ c.
-    let arm = c .before in
-    let base = arm .before in
-    let reg = base .before in
-    let w = reg .before .args .raw in
+    let base = c .before .before in
+    let s = base .before .before in
+    let w = s .args .raw in
     let n = c .compressed-double-imm in
-    same-store true (reg .compressed-register-at .ensures) (base .compressed-register-at2 .ensures) (kept (record { sfits = n .ok }) (n .ensures)) refl
-    ∙ reads storing w (is 0 2 0b00 ∷ is 13 3 0b111 ∷ []) (reg .before .pre, (seen w 13 3 (arm .match .keys2), tt)) refl)
+    rw (base .before .compressed-register-at .ensures, base .compressed-register-at2 .ensures, kept (record { sfits = n .ok }) (n .ensures))
+    (short-reads storing w (is 0 2 0b00 ∷ is 13 3 0b111 ∷ []) (s .pre, (seen w 13 3 (c .before .match .keys2), tt)) refl refl))
     (λ c.
     let s = c .before .before .before in
     let w = s .args .raw in
     let no = c .match .rest in
-    reads storing w (is 0 2 0b00 ∷ isnt 13 3 0b110 ∷ isnt 13 3 0b111 ∷ []) (s .pre, (unseen w 13 3 (no .0 .1), (unseen w 13 3 (no .1), tt))) refl))
+    short-reads storing w (is 0 2 0b00 ∷ isnt 13 3 0b110 ∷ isnt 13 3 0b111 ∷ []) (s .pre, (unseen w 13 3 (no .0 .1), (unseen w 13 3 (no .1), tt))) refl refl))

@@ -1,7 +1,5 @@
 -- `memory_decoder::decode_store` meets its contract: each arm knows the word's length. Assumes nothing.
-use Rattle.utils.proofs.Prelude.{sym, _∙_, needs}
-use Rattle.memory_decoder.specs.Store.{storeDef}
-use Rattle.memory_decoder.specs.declared.StoreRead.the-variants.{Refused}
+use Rattle.utils.proofs.Prelude.{_∙_, arith, needs}
 use Rattle.memory_decoder.proofs.Lengths.{if-long, if-short}
 use Rattle.memory_decoder.proofs.decode_store.Statement.{statement}
 use Rattle.memory_decoder.proofs.decode_store.Tie as tie
@@ -11,11 +9,5 @@ decode-store-spec =
     tie.close
     (tie.spec
     (λ c κs. search needs) (λ c κs. search needs) (λ c κs. search needs)
-    (λ c.
-    let s = c .before .before in
-    let a = s .before .args in
-    c .decode-uncompressed-store .ensures ∙ if-long (a .raw) (storeDef (a .ctx) (a .raw)) (Refused 3) (sym (s .extract-last-two-bits .ensures) ∙ c .before .match .keys1))
-    (λ c.
-    let s = c .before .before in
-    let a = s .before .args in
-    c .decode-compressed-store .ensures ∙ if-short (a .raw) (Refused 3) (storeDef (a .ctx) (a .raw)) (λ e. c .before .match .rest .1 (s .extract-last-two-bits .ensures ∙ e))))
+    (λ c. c .decode-uncompressed-store .ensures ∙ if-long (c .before .before .before .args .raw) _ _ (omega arith))
+    (λ c. c .decode-compressed-store .ensures ∙ if-short (c .before .before .before .args .raw) _ _ (λ e. omega arith)))
