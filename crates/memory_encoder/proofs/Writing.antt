@@ -1,5 +1,5 @@
 -- What is known of a load or a store settles its form, and the word of its immediate's code: for any forms that the tables may have. Assumes nothing.
-use Rattle.utils.proofs.Prelude.{_≡_, refl, sym, ap, _∙_, Bool, true, false, _||_, not, cond, List, [], _∷_, ℕ, _<_, arith, eqb, ltb, getD}
+use Rattle.utils.proofs.Prelude.{_≡_, refl, sym, ap, _∙_, Bool, true, false, _&&_, _||_, not, cond, List, [], _∷_, ℕ, _%_, _<_, arith, eqb, ltb, getD}
 use Rattle.utils.proofs.Prelude.{ℤ, mag, w64, SFits, toZ, ofZ, toZ-ofZ, lt-ltb, ltb-true}
 use denote.Enum.Declared.{tagOf}
 use Rattle.utils.specs.Signed.{twos, codeDef}
@@ -23,6 +23,7 @@ use Rattle.memory_decoder.specs.Forms.{loads, stores}
 use Rattle.memory_decoder.specs.Funct3.{sizeOf, funct3Of}
 use Rattle.memory_decoder.specs.Load as Load
 use Rattle.memory_decoder.specs.Store as Store
+use Rattle.memory_encoder.specs.LoadStore.{stepped}
 
 -- ---- what is known of the operands settles the form: of the register, which is the operand y, the base, funct and `short`
 abbrev told : Operand → Told → Told → Told → Told → Operand → Told
@@ -75,6 +76,15 @@ found L word z fits {c} {k} e q p = p ∙ same k (sym is ∙ q) ∙ ap (λ (v : 
 -- a form whose immediate has twelve bits holds every code
 pub all-codes : (L : Layout) → ((n : ℕ) → holds L imm n ≡ ltb n 4096) → (z : ℤ) → codeDef 2048 z ≡ within L (codeDef 2048 z)
 all-codes L h z = on (λ (k : Code). k ≡ within L k) (ltb (mag z) 2048) (λ e. simp (h, lt-ltb _ _ (twos-lt 2048 z (ltb-true _ _ e)))) (λ _. refl)
+
+-- and of one whose immediate holds the multiples of s below l `offset` finds the code
+pub found-step : (L : Layout) (s l : ℕ) → ((n : ℕ) → holds L imm n ≡ (eqb (n % s) 0 && ltb n l)) → (word : ℕ → ℕ) (z : ℤ) → SFits w64 z → {c k : Code} {r : Wrote}
+    → c ≡ stepped s l (codeDef 2048 (toZ w64 (ofZ w64 z))) → c ≡ k → r ≡ putCode word k → r ≡ put (within L (codeDef 2048 z)) (word (twos 2048 z))
+found-step L s l h word z fits e = found L word z fits (e ∙ codes (codeDef 2048 (toZ w64 (ofZ w64 z))))
+  where
+    codes : (k : Code) → stepped s l k ≡ within L k
+    codes (Is n) = simp h
+    codes Out = refl
 
 -- ---- a width's place in a match
 pub size-tag : (len : Width) → sizeOf len ≡ tagOf the-type len

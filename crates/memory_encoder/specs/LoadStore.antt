@@ -2,16 +2,16 @@
 -- the encoder's own functions answer.
 use Prim.Native.Nat.{ℕ, _%_}
 use mathlib.Core.Path.{_≡_}
-use mathlib.Core.Bool.{true, false, _&&_}
+use mathlib.Core.Bool.{true, false, _&&_, cond}
 use lib.Dec.{eqb, ltb}
 use lib.IntN.{ℤ}
-use Rattle.utils.specs.Signed.{codeDef}
 use Rattle.utils.specs.declared.Code.{Code}
+use Rattle.utils.specs.declared.Code.the-variants.{Is, Out}
 use Rattle.utils.specs.declared.Width.{Width}
 use Rattle.profiles.specs.declared.Profile.{Profile}
 use Rattle.forms.specs.declared.Wrote.{Wrote}
-use Rattle.forms.specs.Layout.{Layout, Operand, imm, rd, rs1, rs2, funct, csr, short, holds}
-use Rattle.forms.specs.Meaning.{within, writeOf}
+use Rattle.forms.specs.Layout.{Operand, imm, rd, rs1, rs2, funct, csr, short}
+use Rattle.forms.specs.Meaning.{writeOf}
 use Rattle.memory_decoder.specs.declared.LoadInstr.{LoadInstr}
 use Rattle.memory_decoder.specs.declared.StoreInstr.{StoreInstr}
 use Rattle.memory_decoder.specs.Forms.{loads, stores}
@@ -41,6 +41,7 @@ pub record Compressed (f x b : ℕ) (z : ℤ) (len : Width) (r : Wrote) : Type 0
   pub as-load : f ≡ 0b010 → r ≡ writeOf loads Load.meaning (Load.mk x b z len true false)
   pub as-store : f ≡ 0b110 → r ≡ writeOf stores Store.meaning (Store.mk x b z len true)
 
--- c is the code of z in any form whose immediate holds the multiples of s below l
-abbrev pub Stepped : ℕ → ℕ → ℤ → Code → Type 0
-Stepped s l z c = (L : Layout) → ((n : ℕ) → holds L imm n ≡ (eqb (n % s) 0 && ltb n l)) → c ≡ within L (codeDef 2048 z)
+-- a code that is a multiple of s below l
+abbrev pub stepped : ℕ → ℕ → Code → Code
+stepped s l (Is n) = cond (eqb (n % s) 0 && ltb n l) (Is n) Out
+stepped s l Out = Out

@@ -2,10 +2,11 @@
 // numbers; one that has no word is refused with document 01's numbers.
 ghost use mathlib.Core.Path.{_≡_};
 ghost use Prim.Native.Nat.{_<_, _≤_};
+ghost use Rattle.utils.specs.Signed.{codeDef};
 ghost use Rattle.forms.specs.Layout.{build, rd};
 ghost use Rattle.memory_decoder.specs.Forms.{load, store, c-word, c-double};
 ghost use Rattle.memory_decoder.specs.Funct3.{sizeOf, funct3Of};
-ghost use Rattle.memory_encoder.specs.LoadStore.{encodeLoadDef, encodeStoreDef, Compressed, Stepped, operands};
+ghost use Rattle.memory_encoder.specs.LoadStore.{encodeLoadDef, encodeStoreDef, Compressed, operands, stepped};
 use forms::Wrote;
 use memory_decoder::LoadInstr;
 use memory_decoder::StoreInstr;
@@ -93,7 +94,7 @@ fn encode_compressed(func3: usize, reg: usize, base: usize, imm: isize, len: Wid
 // The code of an immediate that is a multiple of `step` below `limit`.
 fn offset(imm: isize, step: usize, limit: usize) -> Code
     requires { ⌜ 0 < step ⌝ }
-    ensures { λ r. ⌜ Stepped step limit imm r ⌝ }
+    ensures { λ r. ⌜ r ≡ stepped step limit (codeDef 2048 imm) ⌝ }
 {
     match utils::code_of(imm, HALF) {
         Code::Is(n) => if n % step != 0 {

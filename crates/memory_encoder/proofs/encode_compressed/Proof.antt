@@ -15,7 +15,7 @@ use Rattle.memory_decoder.specs.Funct3.{sizeOf, funct3Of}
 use Rattle.memory_decoder.specs.Load as Load
 use Rattle.memory_decoder.specs.Store as Store
 use Rattle.memory_encoder.specs.LoadStore.{Compressed, operands}
-use Rattle.memory_encoder.proofs.Writing.{load-layout, store-layout, anything, numbered, putCode, found, size-tag}
+use Rattle.memory_encoder.proofs.Writing.{load-layout, store-layout, anything, numbered, putCode, found-step, size-tag}
 use Rattle.memory_encoder.proofs.encode_compressed.Statement.{statement}
 use Rattle.memory_encoder.proofs.encode_compressed.Tie as tie
 
@@ -56,8 +56,8 @@ word c q p =
     let l = load-layout eight eight (exactly 2) (exactly 1) (load s) x b (ap (λ (w : Width). funct3Of w false) width) refl refl in
     let t = store-layout eight eight (exactly 2) (exactly 1) (store s) x b (ap sizeOf width) refl refl in
     record {
-      as-load = λ u. found c-lw _ (s .args .imm) (s .fits .imm) (c .offset .ensures c-lw (λ n. refl)) q (rw u at p) ∙ sym l;
-      as-store = λ u. found c-sw _ (s .args .imm) (s .fits .imm) (c .offset .ensures c-sw (λ n. refl)) q (rw u at p) ∙ sym t;
+      as-load = λ u. found-step c-lw 4 128 (λ n. refl) _ (s .args .imm) (s .fits .imm) (c .offset .ensures) q (rw u at p) ∙ sym l;
+      as-store = λ u. found-step c-sw 4 128 (λ n. refl) _ (s .args .imm) (s .fits .imm) (c .offset .ensures) q (rw u at p) ∙ sym t;
     }
 
 double : (c : tie.After-offset2) {k : Code} {r : Wrote} → c .offset2 .result ≡ k
@@ -71,8 +71,8 @@ double c q p =
     let l = load-layout eight eight (exactly 3) (exactly 1) (load s) x b (ap (λ (w : Width). funct3Of w false) width) refl refl in
     let t = store-layout eight eight (exactly 3) (exactly 1) (store s) x b (ap sizeOf width) refl refl in
     record {
-      as-load = λ u. found c-ld _ (s .args .imm) (s .fits .imm) (c .offset2 .ensures c-ld (λ n. refl)) q (rw u at p) ∙ sym l;
-      as-store = λ u. found c-sd _ (s .args .imm) (s .fits .imm) (c .offset2 .ensures c-sd (λ n. refl)) q (rw u at p) ∙ sym t;
+      as-load = λ u. found-step c-ld 8 256 (λ n. refl) _ (s .args .imm) (s .fits .imm) (c .offset2 .ensures) q (rw u at p) ∙ sym l;
+      as-store = λ u. found-step c-sd 8 256 (λ n. refl) _ (s .args .imm) (s .fits .imm) (c .offset2 .ensures) q (rw u at p) ∙ sym t;
     }
 
 pub encode-compressed-spec : {M : Type 1} → statement M
