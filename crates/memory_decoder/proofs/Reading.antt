@@ -42,10 +42,10 @@ module _ (L : Layout) (ok : good L ≡ true) (small : leb (size L imm) 11 ≡ tr
 pub record Reading (I R : Type 0) : Type 1 where
   pub answer : Answer I → R
   pub number : R → ℕ
-  pub table : List Layout
+  pub forms : List Layout
   pub meaning : Meaning I
   pub opcode : ℕ  -- of the 32-bit form
-  pub ok : sound table ≡ true
+  pub ok : sound forms ≡ true
   pub reading-refusal : (w : ℕ) → meaning .reading-refusal w ≡ unread opcode w
   pub number-is : (k : Answer I) → number (answer k) ≡ numberIn k
   pub form : (k : Answer I) (i : I) → answer k ≡ answer (value i) → k ≡ value i
@@ -58,7 +58,7 @@ abbrev pub loading : Reading LoadInstr LoadRead
 loading = record {
   answer = Load.answered;
   number = Load.numberOf;
-  table = loads;
+  forms = loads;
   meaning = Load.meaning;
   opcode = 0x03;
   ok = refl;
@@ -75,7 +75,7 @@ abbrev pub storing : Reading StoreInstr StoreRead
 storing = record {
   answer = Store.answered;
   number = Store.numberOf;
-  table = stores;
+  forms = stores;
   meaning = Store.meaning;
   opcode = 0x23;
   ok = refl;
@@ -86,7 +86,7 @@ storing = record {
 
 -- its answer to a word
 abbrev pub answerTo : {I R : Type 0} → Reading I R → ℕ → R
-answerTo F w = F .answer (readOf (F .table) (F .meaning) w)
+answerTo F w = F .answer (readOf (F .forms) (F .meaning) w)
 
 -- `unread` as tests of fields
 abbrev reasons : ℕ → List Reason
@@ -94,17 +94,17 @@ reasons opcode = reason 0 2 0b10 5 ∷ reason 0 7 opcode 4 ∷ []
 
 -- the answer to words of which the facts are known
 abbrev answerBy : {I R : Type 0} → Reading I R → List Fact → ℕ → R
-answerBy F fs w = F .answer (readAs (F .meaning) w (first (fits fs) (F .table) (numberKnown fs (reasons (F .opcode)) 3)))
+answerBy F fs w = F .answer (readAs (F .meaning) w (first (fits fs) (F .forms) (numberKnown fs (reasons (F .opcode)) 3)))
 
 -- the facts settle it
 abbrev settled : {I R : Type 0} → Reading I R → List Fact → Bool
-settled F fs = settles fs (F .table) && clears fs (reasons (F .opcode))
+settled F fs = settles fs (F .forms) && clears fs (reasons (F .opcode))
 
 module _ {I R : Type 0} (F : Reading I R) (w : ℕ) (fs : List Fact) (h : Known w fs) where
   pub reads : settled F fs ≡ true → answerBy F fs w ≡ answerTo F w
   reads e =
-      let fine = both (all good (F .table)) (distinct (F .table)) (F .ok) .0 in
-      ap (F .answer) (sym (by-facts (F .table) (F .meaning) fine (reasons (F .opcode)) 3 (F .reading-refusal) w fs h e))
+      let fine = both (all good (F .forms)) (distinct (F .forms)) (F .ok) .0 in
+      ap (F .answer) (sym (by-facts (F .forms) (F .meaning) fine (reasons (F .opcode)) 3 (F .reading-refusal) w fs h e))
 
   -- the same of a reader of one length of words, which answers 3 to the other; the facts tell the length
   pub long-reads : settled F fs ≡ true → tells (ofFacts fs) (spread 2 0 0b11 []) ≡ true → answerBy F fs w ≡ cond (isLong w) (answerTo F w) (F .answer (refusal 3))

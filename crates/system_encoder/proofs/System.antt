@@ -16,7 +16,7 @@ use Rattle.forms.specs.Meaning.{Agrees, Every, Faithful, readOf, writeOf}
 use Rattle.utils.proofs.Tests.{on}
 use Rattle.forms.proofs.Accepts.{room, roomy, made-of}
 use Rattle.forms.proofs.Answer.{no-value}
-use Rattle.forms.proofs.Demand3 as table
+use Rattle.forms.proofs.Demand3
 use Rattle.system_decoder.specs.declared.CsrOp.{the-variants.Write, the-variants.Set, the-variants.Clear}
 use Rattle.system_decoder.specs.declared.Fence.{the-variants.Vma, the-variants.Vvma, the-variants.Gvma}
 use Rattle.system_decoder.specs.Forms.{system, accesses}
@@ -131,7 +131,7 @@ low-word (fence f a b) l = (_, sym (fence-word a b (l .0) (l .1) f))
 low-word (access o m a d x) l = (_, sym (access-word a d x (l .0) (l .1 .0) (l .1 .1) o m))
 
 pub checked-word : (p : Profile) (s t : Shape) → checkedDef p s ≡ value t → (w : ℕ) × ((writeShape (value t) ≡ Word w) × (w < 2 ^ 32))
-checked-word p s t e = let k = low-word t (checked-is p s t e .1) in (k .0, (k .1, table.write-then-read system meaning system-sound faithful t (k .0) (k .1) .0))
+checked-word p s t e = let k = low-word t (checked-is p s t e .1) in (k .0, (k .1, Demand3.write-then-read system meaning system-sound faithful t (k .0) (k .1) .0))
 
 -- ---- a word below 2^32
 pub short-word : (w : ℕ) → w < 2 ^ 32 → shapeAt w ≡ readOf system meaning w

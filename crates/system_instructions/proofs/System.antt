@@ -17,7 +17,7 @@ use Rattle.forms.specs.Meaning.{readOf}
 use Rattle.forms.specs.Demand3.{RefusedExactly, OnlyWord}
 use Rattle.utils.proofs.Tests.{on}
 use Rattle.forms.proofs.AnyReader.{no-word, refused-by, only-by}
-use Rattle.forms.proofs.Demand3 as table
+use Rattle.forms.proofs.Demand3
 use Rattle.system_decoder.specs.declared.CsrOp.{CsrOp, the-variants.Write, the-variants.Set, the-variants.Clear}
 use Rattle.system_decoder.specs.declared.Fence.{Fence, the-variants.Vma, the-variants.Vvma, the-variants.Gvma}
 use Rattle.system_encoder.proofs.System.{system-sound, faithful, read-low, short-word}
@@ -131,7 +131,7 @@ unfolding illegalDef encodeIllegalDef
 read-then-write p w i q h = go (readOf system meaning w) refl (ap (readShape p) (sym (short-word w h)) ∙ q)
   where
     go : (k : Answer Shape) → readOf system meaning w ≡ k → readShape p k ≡ Inst i → encodeIllegalDef p i ≡ Word w
-    go (value s) e r = ap writeShape (inst-back p s i (read-low system refl refl w s e) r) ∙ table.read-then-write system meaning system-sound faithful w s e h
+    go (value s) e r = ap writeShape (inst-back p s i (read-low system refl refl w s e) r) ∙ Demand3.read-then-write system meaning system-sound faithful w s e h
     go (refusal n) e r = absurd (let z : _≡_ {A = ℕ} 0 1 = cc in omega arith)
 
 -- the word that an instruction is written as is below 2^32, and is read as the instruction
@@ -141,7 +141,7 @@ write-then-read p i w = go (shapeFor p i) refl
   where
     go : (k : Answer Shape) → shapeFor p i ≡ k → writeShape k ≡ Word w → (w < 2 ^ 32) × (illegalDef p w ≡ Inst i)
     go (value s) e q =
-        let t = table.write-then-read system meaning system-sound faithful s w q in
+        let t = Demand3.write-then-read system meaning system-sound faithful s w q in
         (t .0, ap (readShape p) (short-word w (t .0) ∙ t .1) ∙ inst-forth p i s e)
     go (refusal n) e q = no-word n q
 
