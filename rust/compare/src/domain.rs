@@ -14,16 +14,41 @@ pub const fn contains(reading: Reading, raw: u64) -> bool {
     }
 }
 
-/// The number that document 01 wants for a word outside the domain.
+/// The answer to a compressed load or store with the stack pointer, by Volume I's bits; `None` for any other word. No load has rd 0.
 #[inline]
-pub const fn wanted(reading: Reading, raw: u64) -> u8 {
+pub const fn stack_form(reading: Reading, raw: u64) -> Option<u64> {
+    // bits high:low of the word, as bits from `to` up
+    const fn bits(raw: u64, high: u32, low: u32, to: u32) -> u64 {
+        (raw >> low & ((2 << (high - low)) - 1)) << to
+    }
+    if raw & 3 != 2 {
+        return None;
+    }
+    let (rd, rs2) = (bits(raw, 11, 7, 0), bits(raw, 6, 2, 0));
+    // c.lwsp, c.ldsp, c.swsp, c.sdsp
+    let (kind, width, first, second, imm) = match (reading, bits(raw, 15, 13, 0)) {
+        (Reading::Load, 2) if rd != 0 => (7, 4, rd, 2, bits(raw, 12, 12, 5) | bits(raw, 6, 4, 2) | bits(raw, 3, 2, 6)),
+        (Reading::Load, 3) if rd != 0 => (7, 8, rd, 2, bits(raw, 12, 12, 5) | bits(raw, 6, 5, 3) | bits(raw, 4, 2, 6)),
+        (Reading::Store, 6) => (8, 4, 2, rs2, bits(raw, 12, 9, 2) | bits(raw, 8, 7, 6)),
+        (Reading::Store, 7) => (8, 8, 2, rs2, bits(raw, 12, 10, 3) | bits(raw, 9, 7, 6)),
+        _ => return None,
+    };
+    Some(u64::from_le_bytes([kind, width, 1, first as u8, second as u8, imm as u8, (imm >> 8) as u8, 0]))
+}
+
+/// The answer that is wanted for a word outside the domain: a form with the stack pointer, or document 01's number.
+#[inline]
+pub const fn wanted(reading: Reading, raw: u64) -> u64 {
+    if let Some(answer) = stack_form(reading, raw) {
+        return answer;
+    }
     let opcode = if matches!(reading, Reading::Load) { 0x03 } else { 0x23 };
-    match raw & 3 {
+    reading.refused(match raw & 3 {
         2 => 5,
         // the form, of a reserved width
         _ if raw & 0x7F == opcode => 4,
         _ => 3,
-    }
+    })
 }
 
 /// A class of words outside the domain.
@@ -32,15 +57,15 @@ pub struct Class {
     pub name: &'static str,
     /// The word of it that docs/DIFFERENCES.md has.
     pub example: u64,
-    /// The number that document 01 wants for all of it.
-    pub wanted: u8,
+    /// The number that all of it is refused with; `None` for the forms with the stack pointer, which are read.
+    pub refusal: Option<u8>,
     of: fn(low: u64, opcode: u64, half3: u64, word3: u64) -> bool,
 }
 
 impl Class {
     /// Whether the class has this word.
     pub fn has(&self, raw: u64) -> bool {
-        (self.of)(raw & 3, raw & 0x7F, raw >> 13 & 7, raw >> 12 & 7)
+        self.refusal.is_none() == stack_form(self.reading, raw).is_some() && (self.of)(raw & 3, raw & 0x7F, raw >> 13 & 7, raw >> 12 & 7)
     }
 }
 
@@ -48,82 +73,97 @@ impl Class {
 pub const CLASSES: &[Class] = {
     use Reading::{Load, Store};
     &[
-        Class { reading: Load, name: "low two bits 10", example: 0x4502, wanted: 5, of: |l, _, _, _| l == 2 },
-        Class { reading: Load, name: "low two bits 01", example: 0x4501, wanted: 3, of: |l, _, _, _| l == 1 },
-        Class { reading: Load, name: "00, funct3 0", example: 0x0, wanted: 3, of: |l, _, h, _| l == 0 && h == 0 },
-        Class { reading: Load, name: "00, funct3 1", example: 0x2000, wanted: 3, of: |l, _, h, _| l == 0 && h == 1 },
-        Class { reading: Load, name: "00, funct3 4", example: 0x8000, wanted: 3, of: |l, _, h, _| l == 0 && h == 4 },
-        Class { reading: Load, name: "00, funct3 5", example: 0xA000, wanted: 3, of: |l, _, h, _| l == 0 && h == 5 },
-        Class { reading: Load, name: "00, funct3 6, 7", example: 0xDFFC, wanted: 3, of: |l, _, h, _| l == 0 && h >= 6 },
-        Class { reading: Load, name: "11, opcode 0x07", example: 0x8005_2287, wanted: 3, of: |_, o, _, _| o == 0x07 },
-        Class { reading: Load, name: "11, opcode 0x23", example: 0xFEB1_3C23, wanted: 3, of: |_, o, _, _| o == 0x23 },
-        Class { reading: Load, name: "11, opcode 0x2F", example: 0x1005_22AF, wanted: 3, of: |_, o, _, _| o == 0x2F },
-        Class { reading: Load, name: "11, opcode 0x73", example: 0xF140_22F3, wanted: 3, of: |_, o, _, _| o == 0x73 },
+        Class { reading: Load, name: "low two bits 10, C.LWSP, C.LDSP", example: 0x4502, refusal: None, of: |l, _, _, _| l == 2 },
+        Class { reading: Load, name: "low two bits 10, any other", example: 0x4002, refusal: Some(5), of: |l, _, _, _| l == 2 },
+        Class { reading: Load, name: "low two bits 01", example: 0x4501, refusal: Some(3), of: |l, _, _, _| l == 1 },
+        Class { reading: Load, name: "00, funct3 0", example: 0x0, refusal: Some(3), of: |l, _, h, _| l == 0 && h == 0 },
+        Class { reading: Load, name: "00, funct3 1", example: 0x2000, refusal: Some(3), of: |l, _, h, _| l == 0 && h == 1 },
+        Class { reading: Load, name: "00, funct3 4", example: 0x8000, refusal: Some(3), of: |l, _, h, _| l == 0 && h == 4 },
+        Class { reading: Load, name: "00, funct3 5", example: 0xA000, refusal: Some(3), of: |l, _, h, _| l == 0 && h == 5 },
+        Class { reading: Load, name: "00, funct3 6, 7", example: 0xDFFC, refusal: Some(3), of: |l, _, h, _| l == 0 && h >= 6 },
+        Class { reading: Load, name: "11, opcode 0x07", example: 0x8005_2287, refusal: Some(3), of: |_, o, _, _| o == 0x07 },
+        Class { reading: Load, name: "11, opcode 0x23", example: 0xFEB1_3C23, refusal: Some(3), of: |_, o, _, _| o == 0x23 },
+        Class { reading: Load, name: "11, opcode 0x2F", example: 0x1005_22AF, refusal: Some(3), of: |_, o, _, _| o == 0x2F },
+        Class { reading: Load, name: "11, opcode 0x73", example: 0xF140_22F3, refusal: Some(3), of: |_, o, _, _| o == 0x73 },
         Class {
             reading: Load,
             name: "11, any other opcode but 0x03",
             example: 0xFFFF_FFFF,
-            wanted: 3,
+            refusal: Some(3),
             of: |l, o, _, _| l == 3 && !matches!(o, 0x03 | 0x07 | 0x23 | 0x2F | 0x73),
         },
-        Class { reading: Load, name: "opcode 0x03, funct3 7", example: 0x8005_7283, wanted: 4, of: |_, o, _, w| o == 0x03 && w == 7 },
-        Class { reading: Store, name: "low two bits 10", example: 0xC502, wanted: 5, of: |l, _, _, _| l == 2 },
-        Class { reading: Store, name: "low two bits 01", example: 0xC501, wanted: 3, of: |l, _, _, _| l == 1 },
+        Class {
+            reading: Load,
+            name: "opcode 0x03, funct3 7",
+            example: 0x8005_7283,
+            refusal: Some(4),
+            of: |_, o, _, w| o == 0x03 && w == 7,
+        },
+        Class { reading: Store, name: "low two bits 10, C.SWSP, C.SDSP", example: 0xC502, refusal: None, of: |l, _, _, _| l == 2 },
+        Class { reading: Store, name: "low two bits 10, any other", example: 0x4502, refusal: Some(5), of: |l, _, _, _| l == 2 },
+        Class { reading: Store, name: "low two bits 01", example: 0xC501, refusal: Some(3), of: |l, _, _, _| l == 1 },
         Class {
             reading: Store,
             name: "00, funct3 0, 1, 4, 5",
             example: 0x0,
-            wanted: 3,
+            refusal: Some(3),
             of: |l, _, h, _| l == 0 && matches!(h, 0 | 1 | 4 | 5),
         },
-        Class { reading: Store, name: "00, funct3 2, 3", example: 0x5FFC, wanted: 3, of: |l, _, h, _| l == 0 && (h == 2 || h == 3) },
+        Class { reading: Store, name: "00, funct3 2, 3", example: 0x5FFC, refusal: Some(3), of: |l, _, h, _| l == 0 && (h == 2 || h == 3) },
         Class {
             reading: Store,
             name: "11, opcode 0x27, funct3 0 to 3",
             example: 0xFEB1_2C27,
-            wanted: 3,
+            refusal: Some(3),
             of: |_, o, _, w| o == 0x27 && w < 4,
         },
         Class {
             reading: Store,
             name: "11, opcode 0x03, funct3 0 to 3",
             example: 0x8005_2283,
-            wanted: 3,
+            refusal: Some(3),
             of: |_, o, _, w| o == 0x03 && w < 4,
         },
         Class {
             reading: Store,
             name: "11, opcode 0x2F, funct3 0 to 3",
             example: 0x18B5_22AF,
-            wanted: 3,
+            refusal: Some(3),
             of: |_, o, _, w| o == 0x2F && w < 4,
         },
         Class {
             reading: Store,
             name: "11, any other opcode but 0x23, funct3 0 to 3",
             example: 0xFFFF_BFFF,
-            wanted: 3,
+            refusal: Some(3),
             of: |l, o, _, w| l == 3 && w < 4 && !matches!(o, 0x03 | 0x23 | 0x27 | 0x2F),
         },
         Class {
             reading: Store,
             name: "11, any opcode but 0x23, funct3 4 to 7",
             example: 0xFFFF_FFFF,
-            wanted: 3,
+            refusal: Some(3),
             of: |l, o, _, w| l == 3 && w >= 4 && o != 0x23,
         },
-        Class { reading: Store, name: "opcode 0x23, funct3 4 to 7", example: 0xFEB1_4C23, wanted: 4, of: |_, o, _, w| o == 0x23 && w >= 4 },
+        Class {
+            reading: Store,
+            name: "opcode 0x23, funct3 4 to 7",
+            example: 0xFEB1_4C23,
+            refusal: Some(4),
+            of: |_, o, _, w| o == 0x23 && w >= 4,
+        },
     ]
 };
 
 #[cfg(test)]
 mod tests {
     use super::*;
+    use Reading::{Load, Store};
 
     /// The domain and the classes take every word once: all that decides is in the low 16 bits.
     #[test]
     fn each_word_once() {
-        for reading in [Reading::Load, Reading::Store] {
+        for reading in [Load, Store] {
             for raw in 0..0x1_0000 {
                 let classes = CLASSES.iter().filter(|c| c.reading == reading && c.has(raw)).count();
                 assert_eq!(classes, usize::from(!contains(reading, raw)), "{reading:?} {raw:#x}");
@@ -132,8 +172,38 @@ mod tests {
         for class in CLASSES {
             assert!(class.has(class.example), "{}", class.name);
             for raw in (0..0x1_0000).filter(|raw| class.has(*raw)) {
-                assert_eq!(wanted(class.reading, raw), class.wanted, "{} {raw:#x}", class.name);
+                assert_eq!(crate::refusal(wanted(class.reading, raw)), class.refusal, "{} {raw:#x}", class.name);
             }
         }
+    }
+
+    /// Words that an assembler made of the forms with the stack pointer: each bit of an immediate alone, and all of them.
+    #[test]
+    fn stack_forms() {
+        let load = |width, rd, imm: u16| u64::from_le_bytes([7, width, 1, rd, 2, imm as u8, (imm >> 8) as u8, 0]);
+        let store = |width, rs2, imm: u16| u64::from_le_bytes([8, width, 1, 2, rs2, imm as u8, (imm >> 8) as u8, 0]);
+        // the immediate in steps of its form, and the words of c.lwsp, c.ldsp, c.swsp and c.sdsp with x10
+        for (steps, words) in [
+            (0, [0x4502, 0x6502, 0xC02A, 0xE02A]),
+            (1, [0x4512, 0x6522, 0xC22A, 0xE42A]),
+            (2, [0x4522, 0x6542, 0xC42A, 0xE82A]),
+            (4, [0x4542, 0x7502, 0xC82A, 0xF02A]),
+            (8, [0x5502, 0x6506, 0xD02A, 0xE0AA]),
+            (16, [0x4506, 0x650A, 0xC0AA, 0xE12A]),
+            (32, [0x450A, 0x6512, 0xC12A, 0xE22A]),
+            (63, [0x557E, 0x757E, 0xDFAA, 0xFFAA]),
+        ] {
+            let (w, d) = (steps * 4, steps * 8);
+            let answers = [(Load, load(4, 10, w)), (Load, load(8, 10, d)), (Store, store(4, 10, w)), (Store, store(8, 10, d))];
+            for (raw, (reading, answer)) in words.into_iter().zip(answers) {
+                assert_eq!(stack_form(reading, raw), Some(answer), "{raw:#x}");
+                assert_eq!(stack_form(reading, raw | 0xDEAD_BEEF_DEAD_0000), Some(answer), "{raw:#x}");
+            }
+        }
+        // x31, and x0, which is stored and not loaded
+        assert_eq!([0x4F82, 0x6F82].map(|raw| stack_form(Load, raw)), [Some(load(4, 31, 0)), Some(load(8, 31, 0))]);
+        assert_eq!([0xC07E, 0xE07E].map(|raw| stack_form(Store, raw)), [Some(store(4, 31, 0)), Some(store(8, 31, 0))]);
+        assert_eq!([0xC002, 0xE002].map(|raw| stack_form(Store, raw)), [Some(store(4, 0, 0)), Some(store(8, 0, 0))]);
+        assert_eq!([0x4002, 0x6002].map(|raw| stack_form(Load, raw)), [None; 2]);
     }
 }

@@ -1,6 +1,6 @@
 //! What Miralis's own decoder does outside and at the edges of the domain that was ported: one row for each class of input, with
-//! one input of it, the answer of the Rust (in a debug build, and in a release build where that differs) and the answer that
-//! document 01 wants. Where a class is large, a number of its words is tried, and the row says how many did the same.
+//! one input of it, the answer of the Rust (in a debug build, and in a release build where that differs) and the wanted answer.
+//! Where a class is large, a number of its words is tried, and the row says how many did the same.
 //!
 //! It prints the tables of docs/DIFFERENCES.md.
 
@@ -22,6 +22,9 @@ mod run {
     use std::any::Any;
     use std::fmt::Write;
     use std::panic::{AssertUnwindSafe, catch_unwind};
+
+    use compare::Reading;
+    use compare::domain::stack_form;
 
     const NONE: u64 = 0;
     const ZIHPM: u64 = 1 << 1;
@@ -181,7 +184,7 @@ mod run {
     struct Row {
         class: &'static str,
         one: Call,
-        /// What document 01 wants for `one`.
+        /// What is wanted for `one`.
         wanted: &'static str,
         /// The class, or some of it: the row says how many are answered, and how many end in which panic. Empty: `one` alone.
         more: Vec<Call>,
@@ -200,7 +203,7 @@ mod run {
 
     fn table(title: &str, rows: &[Row]) {
         println!("\n### {title}\n");
-        println!("| class | input | the Rust | tried | document 01 |\n|---|---|---|---|---|");
+        println!("| class | input | the Rust | tried | wanted |\n|---|---|---|---|---|");
         for r in rows {
             let (checked, wrapped) = (debug::call(r.one), release::call(r.one));
             let mut did = checked.text();
@@ -255,6 +258,11 @@ mod run {
         (0..0x1_0000u64).filter(move |w| w & 3 == low && funct3.contains(&(w >> 13)))
     }
 
+    /// All halfwords with low two bits 10: the reading's forms with the stack pointer, or all others.
+    fn stack(reading: Reading, forms: bool) -> impl Iterator<Item = u64> {
+        halves(2, ANY).filter(move |w| stack_form(reading, *w).is_some() == forms)
+    }
+
     /// Random 32-bit words with low two bits 11, an opcode that passes and one of these funct3.
     fn words(opcode: impl Fn(u64) -> bool, funct3: &'static [u64]) -> impl Iterator<Item = u64> {
         random().map(|w| w & 0xFFFF_FFFF | 3).filter(move |w| opcode(w & 0x7F) && funct3.contains(&(w >> 12 & 7))).take(100_000)
@@ -266,7 +274,9 @@ mod run {
         table(
             "The load reading",
             &[
-                row("low two bits 10", load(0x4502), "5").with(halves(2, ANY).map(load)),
+                row("low two bits 10, C.LWSP and C.LDSP, rd not 0", load(0x4502), "load 32 signed, rd 10, base 2, 0")
+                    .with(stack(Reading::Load, true).map(load)),
+                row("low two bits 10, any other", load(0x4002), "5").with(stack(Reading::Load, false).map(load)),
                 row("low two bits 01", load(0x4501), "3").with(halves(1, ANY).map(load)),
                 row("00, funct3 0 (c.addi4spn, and all zeros)", load(0x0000), "3").with(halves(0, &[0]).map(load)),
                 row("00, funct3 1 (c.fld), 0x2000 among them", load(0x2000), "3").with(halves(0, &[1]).map(load)),
@@ -288,7 +298,9 @@ mod run {
         table(
             "The store reading",
             &[
-                row("low two bits 10", store(0xC502), "5").with(halves(2, ANY).map(store)),
+                row("low two bits 10, C.SWSP and C.SDSP", store(0xC502), "store 32, rs2 0, base 2, 136")
+                    .with(stack(Reading::Store, true).map(store)),
+                row("low two bits 10, any other", store(0x4502), "5").with(stack(Reading::Store, false).map(store)),
                 row("low two bits 01", store(0xC501), "3").with(halves(1, ANY).map(store)),
                 row("00, funct3 0, 1, 4, 5", store(0x0000), "3").with(halves(0, &[0, 1, 4, 5]).map(store)),
                 row("00, funct3 2, 3: the loads c.lw, c.ld", store(0x5FFC), "3").with(halves(0, &[2, 3]).map(store)),
