@@ -1,10 +1,11 @@
-//! Writes the list of the Rust's own answers that crates/vectors replays: `vectors FILE`.
+//! Writes the list of answers that crates/vectors replays, most of them the Rust's own: `vectors FILE`.
 //!
 //! An entry is 32 bytes: the reading (0 SYSTEM, 1 load, 2 store); the profile's flags; its mask in eight bytes, low first; the raw
 //! word in eight bytes, low first; the log record of the answer in a slot of twelve, zeros after it; two zeros.
 //!
 //! The first entries are document 01's own words, with the answers typed in by hand as the document has them. Where the Rust's answer
-//! is the wanted one too, it is held to the typed one. All further entries are what the Rust answered.
+//! is the wanted one too, it is held to the typed one. Then come the Rust's own answers. The last entries are words with low two bits
+//! 10, which the Rust does not read: their answers are the fields that the words are made of.
 
 #[cfg(not(have_miralis))]
 fn main() {
@@ -74,11 +75,14 @@ mod run {
         fn typed(&mut self, reading: Reading, raw: u64, bytes: &[u8]) {
             let mut answer = [0; 8];
             answer[..bytes.len()].copy_from_slice(bytes);
-            let answer = u64::from_le_bytes(answer);
-            if domain::contains(reading, raw) {
-                assert_eq!(ask(reading, Profile::EMPTY, raw), answer, "{raw:#X}: the Rust does not answer as the document");
-            }
-            self.push(reading, Profile::EMPTY, raw, answer);
+            self.told(reading, Profile::EMPTY, raw, u64::from_le_bytes(answer));
+        }
+
+        /// An answer that is not taken from the Rust, but held to the Rust's or to the wanted one.
+        fn told(&mut self, reading: Reading, p: Profile, raw: u64, answer: u64) {
+            let other = if domain::contains(reading, raw) { ask(reading, p, raw) } else { domain::wanted(reading, raw) };
+            assert_eq!(other, answer, "{} {raw:#X}", reading.name());
+            self.push(reading, p, raw, answer);
         }
 
         /// What the Rust says of it.
@@ -136,8 +140,8 @@ mod run {
         list.typed(System, 0x3000_4073, &[0x09, 0, 1]);
         list.typed(System, 0xF140_42F3, &[0x09, 0, 1]);
         // each refusal of the readings where the Rust has no answer or guesses
-        list.typed(Load, 0x4502, &[0x09, 1, 5]);
-        list.typed(Store, 0xC502, &[0x09, 2, 5]);
+        list.typed(Load, 0x4002, &[0x09, 1, 5]);
+        list.typed(Store, 0x4502, &[0x09, 2, 5]);
         list.typed(Load, 0x4501, &[0x09, 1, 3]);
         list.typed(Store, 0xC501, &[0x09, 2, 3]);
         list.typed(Load, 0x8000, &[0x09, 1, 3]);
@@ -309,12 +313,78 @@ mod run {
         }
     }
 
+    /// A compressed form with the stack pointer, as Volume I draws it.
+    struct StackForm {
+        reading: Reading,
+        funct3: u64,
+        bytes: u64,
+        /// The lowest of the five bits of the word that hold the register.
+        register: u64,
+        /// The bits of the word that hold the immediate's, from that of one step up.
+        places: [u64; 6],
+    }
+
+    const STACK_FORMS: [StackForm; 4] = [
+        StackForm { reading: Load, funct3: 2, bytes: 4, register: 7, places: [4, 5, 6, 12, 2, 3] },
+        StackForm { reading: Load, funct3: 3, bytes: 8, register: 7, places: [5, 6, 12, 2, 3, 4] },
+        StackForm { reading: Store, funct3: 6, bytes: 4, register: 2, places: [9, 10, 11, 12, 7, 8] },
+        StackForm { reading: Store, funct3: 7, bytes: 8, register: 2, places: [10, 11, 12, 7, 8, 9] },
+    ];
+
+    impl StackForm {
+        /// Adds a word with rubbish above bit 15 (or none), in both readings. The immediate is in steps.
+        fn add(&self, list: &mut List, p: Profile, above: u64, register: u64, steps: u64) {
+            let imm: u64 = self.places.iter().enumerate().map(|(k, place)| (steps >> k & 1) << place).sum();
+            let raw = above << 16 | self.funct3 << 13 | register << self.register | imm | 2;
+            let [low, high, ..] = (steps * self.bytes).to_le_bytes();
+            let bytes = match self.reading {
+                // no load has rd 0
+                Load if register == 0 => Load.refused(5).to_le_bytes(),
+                Load => [0x07, self.bytes as u8, 1, register as u8, 2, low, high, 0],
+                _ => [0x08, self.bytes as u8, 1, 2, register as u8, low, high, 0],
+            };
+            list.told(self.reading, p, raw, u64::from_le_bytes(bytes));
+            let other = if self.reading == Load { Store } else { Load };
+            list.told(other, p, raw, other.refused(5));
+        }
+    }
+
+    /// The words with low two bits 10: every immediate and every register of the forms, not all together; rubbish above bit 15; the
+    /// other values of funct3, with no bit between it and the low two, each alone and all.
+    fn stack(list: &mut List, random: &mut Random) {
+        for form in STACK_FORMS {
+            for register in [0, 1, 8, 15, 31] {
+                for steps in 0..64 {
+                    form.add(list, Profile::EMPTY, 0, register, steps);
+                }
+            }
+            for register in 0..32 {
+                form.add(list, Profile::FULL, 0, register, 0);
+                form.add(list, Profile::FULL, 0, register, 63);
+            }
+            for _ in 0..100 {
+                let p = MIXED[random.below(6) as usize];
+                form.add(list, p, random.next(), random.below(32), random.below(64));
+            }
+        }
+        for funct3 in [0, 1, 4, 5] {
+            for middle in (2..13).map(|bit| 1 << bit).chain([0, 0x1FFC]) {
+                for reading in [Load, Store] {
+                    let raw = funct3 << 13 | middle | 2;
+                    list.told(reading, Profile::EMPTY, raw, reading.refused(5));
+                    list.told(reading, Profile::FULL, raw | random.next() << 16, reading.refused(5));
+                }
+            }
+        }
+    }
+
     pub fn list() -> List {
         let mut list = List::default();
         let mut random = Random::new(7);
         document(&mut list);
         system(&mut list, &mut random);
         memory(&mut list, &mut random);
+        stack(&mut list, &mut random);
         list
     }
 }
