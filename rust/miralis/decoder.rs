@@ -21,10 +21,12 @@
 //!
 //! Where a word is a SYSTEM instruction, a load or a store as document 01 has them, the answers are the original's. They differ:
 //!
-//! - `decode_load` and `decode_store` of a word that is no load or store. The original has `todo!` for low two bits 10, `unreachable!`
-//!   for 01, for the compressed words of other instructions and for the reserved store widths; it reads other opcodes (such as flw,
-//!   lr.w, or a store in `decode_load`) as if they were loads or stores, and the reserved load width as 64 bits unsigned. The library
-//!   refuses all of these, and this file panics with the word and the refusal's number.
+//! - `decode_load` of c.lwsp and c.ldsp, and `decode_store` of c.swsp and c.sdsp: the library reads them. The original has `todo!`
+//!   for every word with low two bits 10.
+//! - `decode_load` and `decode_store` of a word that is no load or store. The original has that `todo!`, and `unreachable!` for 01, for
+//!   the compressed words of other instructions and for the reserved store widths; it reads other opcodes (such as flw, lr.w, or a
+//!   store in `decode_load`) as if they were loads or stores, and the reserved load width as 64 bits unsigned. The library refuses all
+//!   of these, and this file panics with the word and the refusal's number.
 //! - Nothing is logged of an unknown CSR.
 
 use matnosoru::{Profile, Refusal};
@@ -94,7 +96,7 @@ pub enum IllegalInst {
     Unknown,
 }
 
-/// A load (register-based) instruction.
+/// A load instruction.
 #[derive(Debug, PartialEq, Eq, Clone)]
 pub struct LoadInstr {
     pub rd: Register,
@@ -105,7 +107,7 @@ pub struct LoadInstr {
     pub is_unsigned: bool,
 }
 
-/// A store (register-based) instruction.
+/// A store instruction.
 #[derive(Debug, PartialEq, Eq, Clone)]
 pub struct StoreInstr {
     pub rs2: Register,

@@ -91,7 +91,7 @@ pub enum IllegalInst {
     },
 }
 
-/// A load (register-based) instruction.
+/// A load instruction.
 #[derive(Debug, PartialEq, Eq, Clone, Copy, Hash)]
 pub struct LoadInstr {
     /// Where the value goes
@@ -108,7 +108,7 @@ pub struct LoadInstr {
     pub is_unsigned: bool,
 }
 
-/// A store (register-based) instruction.
+/// A store instruction.
 #[derive(Debug, PartialEq, Eq, Clone, Copy, Hash)]
 pub struct StoreInstr {
     /// The register with the value

@@ -29,6 +29,30 @@ fn thirty_five() {
     assert_eq!(listing(&[7, 4, 1, 15, 15, 124, 0]), "at kind answer\n0 07 5FFC\nend 7\n");
 }
 
+/// A record of a word that was refused with 5 is accepted, also if the word is one that is read: an older log has such records.
+#[test]
+fn stack_forms() {
+    const TRAPPED: [u8; 14] = [7, 4, 1, 10, 2, 0, 0, 8, 4, 1, 2, 0, 136, 0];
+    let old = |reading, raw| Record::Refused { reading, refusal: Refusal::StackForm, raw };
+    let records = [old(Reading::Load, 0x4502), old(Reading::Store, 0xC502)];
+    let bytes = [[9, 1, 5, 0x02, 0x45, 0, 0, 0, 0, 0, 0], [9, 2, 5, 0x02, 0xC5, 0, 0, 0, 0, 0, 0]];
+    for (record, bytes) in records.iter().zip(bytes) {
+        let mut out = [0; Record::LONGEST];
+        assert_eq!(Profile::EMPTY.read_record(&bytes), Ok((*record, 11)));
+        assert_eq!(Profile::EMPTY.write_record(record, &mut out), Ok(11));
+        assert_eq!(out, bytes);
+    }
+    let log = [&bytes.concat()[..], &TRAPPED].concat();
+    assert_eq!(listing(&log), "at kind answer\n0 09 refused 5\n11 09 refused 5\n22 07 4502\n29 08 C502\nend 36\n");
+    let walked: Vec<_> = Log::new(&log).map(|entry| entry.unwrap().record).collect();
+    assert_eq!(walked[..2], records);
+    // rd 0, a width, the sign, a step and a range that no such form has
+    for bad in [[7, 4, 1, 0, 2, 0, 0], [7, 2, 1, 8, 2, 0, 0], [7, 8, 3, 8, 2, 0, 0], [8, 8, 1, 2, 8, 4, 0], [8, 4, 1, 2, 8, 0, 1]] {
+        assert_eq!(Profile::EMPTY.read_record(&bad), Err(Refusal::RecordField), "{bad:?}");
+        assert_eq!(listing(&bad), "at kind answer\nbad 13 at 0\n");
+    }
+}
+
 /// The records of document 01's bytes, with their places, and what they leave behind.
 #[test]
 fn walk() {
@@ -179,11 +203,13 @@ fn there_and_back() {
     ]
     .map(|i| Record::Instr(Instr::Illegal(i)))
     .into();
-    for (len, imm, is_compressed, is_unsigned) in [
-        (Width::Byte, -2048, false, true),
-        (Width::Byte2, 2047, false, false),
-        (Width::Byte4, 124, true, false),
-        (Width::Byte8, 248, true, false),
+    for (rs1, len, imm, is_compressed, is_unsigned) in [
+        (rs1, Width::Byte, -2048, false, true),
+        (rs1, Width::Byte2, 2047, false, false),
+        (rs1, Width::Byte4, 124, true, false),
+        (rs1, Width::Byte8, 248, true, false),
+        (X2, Width::Byte4, 252, true, false),
+        (X2, Width::Byte8, 504, true, false),
     ] {
         records.push(Record::Instr(Instr::Load(LoadInstr { rd, rs1, imm, len, is_compressed, is_unsigned })));
         records.push(Record::Instr(Instr::Store(StoreInstr { rs2, rs1, imm, len, is_compressed })));

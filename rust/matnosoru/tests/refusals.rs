@@ -40,9 +40,17 @@ fn readings() {
     for funct3 in 4..8 {
         assert_eq!(EMPTY.decode_store(funct3 << 12 | 0x23), Err(Refusal::ReservedWidth));
     }
-    // 5: low two bits 10, whatever else
-    for raw in [0x4502, 0xC502, 0xFFFF_FFFE, 2] {
+    // 5: low two bits 10 with another funct3 (c.slli, c.fldsp, c.jr, c.ebreak, c.fsdsp), whatever is above bit 15
+    for raw in [0x0002, 0x1FFE, 0x2002, 0x3FFE, 0x8002, 0x9002, 0x9FFE, 0xA002, 0xBFFE, 0xDEAD_BEEF_C502_0002] {
         assert_eq!(EMPTY.decode_load(raw), Err(Refusal::StackForm), "{raw:#x}");
+        assert_eq!(EMPTY.decode_store(raw), Err(Refusal::StackForm), "{raw:#x}");
+    }
+    // the stores, and the loads with rd 0
+    for raw in [0xC002, 0xC502, 0xDFFE, 0xE002, 0xFFFE, 0xFFFF_FFFE, 0x4002, 0x507E, 0x6002, 0x707E, 0x4502_4002] {
+        assert_eq!(EMPTY.decode_load(raw), Err(Refusal::StackForm), "{raw:#x}");
+    }
+    // the loads, with rd 0 too
+    for raw in [0x4002, 0x4502, 0x5FFE, 0x6002, 0x6502, 0x7FFE, 0xC502_4502] {
         assert_eq!(EMPTY.decode_store(raw), Err(Refusal::StackForm), "{raw:#x}");
     }
 }
@@ -93,7 +101,7 @@ fn writings() {
         Instr::Load(load(X8, X16, 1, Width::Byte8, true, false)),
         Instr::Load(load(X5, X10, isize::MIN, Width::Byte8, false, true)),
         Instr::Store(store(X8, X8, 0, Width::Byte2, true)),
-        Instr::Store(store(X8, X2, isize::MAX, Width::Byte4, true)),
+        Instr::Store(store(X8, X3, isize::MAX, Width::Byte4, true)),
     ] {
         assert_eq!(EMPTY.encode(instr), Err(Refusal::NoForm), "{instr:?}");
     }
@@ -111,6 +119,38 @@ fn writings() {
     }
 }
 
+/// Writing a compressed form with the stack pointer: 9, then 10.
+#[test]
+fn stack_writings() {
+    for imm in [0, 4, 8, 1, -1, 512, isize::MAX] {
+        // rd 0, an unsigned load
+        for len in [Width::Byte4, Width::Byte8] {
+            assert_eq!(EMPTY.encode(load(X0, X2, imm, len, true, false)), Err(Refusal::NoForm), "{imm}");
+            assert_eq!(EMPTY.encode(load(X8, X2, imm, len, true, true)), Err(Refusal::NoForm), "{imm}");
+        }
+        // widths that have no such form
+        for len in [Width::Byte, Width::Byte2] {
+            assert_eq!(EMPTY.encode(load(X8, X2, imm, len, true, false)), Err(Refusal::NoForm), "{imm}");
+            assert_eq!(EMPTY.encode(load(X8, X2, imm, len, true, true)), Err(Refusal::NoForm), "{imm}");
+            assert_eq!(EMPTY.encode(store(X8, X2, imm, len, true)), Err(Refusal::NoForm), "{imm}");
+        }
+        // any other base out of x8 to x15
+        for base in [X0, X1, X3, X7, X16, X31] {
+            assert_eq!(EMPTY.encode(load(X8, base, imm, Width::Byte4, true, false)), Err(Refusal::NoForm), "{base:?} {imm}");
+            assert_eq!(EMPTY.encode(store(X8, base, imm, Width::Byte8, true)), Err(Refusal::NoForm), "{base:?} {imm}");
+        }
+    }
+    for (len, step) in [(Width::Byte4, 4), (Width::Byte8, 8)] {
+        for imm in [-step, -1, 1, step / 2, step + 1, 63 * step + 1, 64 * step, 1 << 16, 1 << 32, isize::MIN, isize::MAX] {
+            for register in [X1, X8, X15, X31] {
+                assert_eq!(EMPTY.encode(load(register, X2, imm, len, true, false)), Err(Refusal::ImmediateRange), "{imm}");
+                assert_eq!(EMPTY.encode(store(register, X2, imm, len, true)), Err(Refusal::ImmediateRange), "{imm}");
+            }
+            assert_eq!(EMPTY.encode(store(X0, X2, imm, len, true)), Err(Refusal::ImmediateRange), "{imm}");
+        }
+    }
+}
+
 /// Words that no typed instruction has: the kind, a code, and a register above 31.
 #[test]
 fn words() {
@@ -125,8 +165,9 @@ fn words() {
     // an address that has no register, alone and with a register above 31
     assert_eq!(write(0x0FFF_0306), Err(Refusal::NoSuchCsr));
     assert_eq!(write(0x20_0FFF_0306), Err(Refusal::RegisterRange));
-    // rs1 32 of a fence, rd 32 of a CSR form, rs1 32 of a load
-    for word in [0x20_0004, 0x20_0300_0105, 0x20_0000_0107] {
+    // rs1 32 of a fence, rd 32 of a CSR form, rs1 32 of a load; with the stack pointer rd 32 of a load and rs2 32 of a store, each also
+    // of a width that has no form
+    for word in [0x20_0004, 0x20_0300_0105, 0x20_0000_0107, 0x02_2001_0407, 0x02_2001_0107, 0x20_0201_0808, 0x20_0201_0208] {
         assert_eq!(write(word), Err(Refusal::RegisterRange), "{word:#x}");
     }
     assert_eq!(write(1), Ok(0x10500073));

@@ -1,6 +1,6 @@
 //! Document 01's own words: the thirteen at the edges, under the empty profile, and the further ones.
 
-use matnosoru::{Csr, IllegalInst::*, LoadInstr, Profile, Refusal, Register::*, StoreInstr, Width, calculate_addr, sign_extend};
+use matnosoru::{Csr, IllegalInst::*, LoadInstr, Profile, Refusal, Register, Register::*, StoreInstr, Width, calculate_addr, sign_extend};
 
 const EMPTY: Profile = Profile::EMPTY;
 
@@ -22,7 +22,7 @@ fn thirteen() {
     assert_eq!(EMPTY.decode_load(0x80057283), Err(Refusal::ReservedWidth));
 }
 
-fn lw(rd: matnosoru::Register, rs1: matnosoru::Register, imm: isize) -> LoadInstr {
+fn lw(rd: Register, rs1: Register, imm: isize) -> LoadInstr {
     LoadInstr { rd, rs1, imm, len: Width::Byte4, is_compressed: false, is_unsigned: false }
 }
 
@@ -42,6 +42,54 @@ fn further() {
     assert_eq!(EMPTY.encode(sd), Ok(0xFEB13C23));
     assert_eq!(EMPTY.encode(clw), Ok(0x5FFC));
     assert_eq!(EMPTY.encode(cld), Ok(0x7D64));
+}
+
+/// Read, whatever is above bit 15; refused in the other reading; written back.
+fn is_stack_load(raw: usize, imm: isize, rd: usize, len: Width) {
+    let load = LoadInstr { rd: Register::from(rd), rs1: X2, imm, len, is_compressed: true, is_unsigned: false };
+    for raw in [raw, raw | 0xDEAD_BEEF_DEAD_0000] {
+        assert_eq!(EMPTY.decode_load(raw), Ok(load), "{raw:#x}");
+        assert_eq!(EMPTY.decode_store(raw), Err(Refusal::StackForm), "{raw:#x}");
+    }
+    assert_eq!(EMPTY.encode(load), Ok(raw as u32), "{load:?}");
+}
+
+fn is_stack_store(raw: usize, imm: isize, rs2: usize, len: Width) {
+    let store = StoreInstr { rs2: Register::from(rs2), rs1: X2, imm, len, is_compressed: true };
+    for raw in [raw, raw | 0xDEAD_BEEF_DEAD_0000] {
+        assert_eq!(EMPTY.decode_store(raw), Ok(store), "{raw:#x}");
+        assert_eq!(EMPTY.decode_load(raw), Err(Refusal::StackForm), "{raw:#x}");
+    }
+    assert_eq!(EMPTY.encode(store), Ok(raw as u32), "{store:?}");
+}
+
+/// c.lwsp, c.ldsp, c.swsp and c.sdsp: none, each and all of an immediate's bits with x10, then each register.
+#[test]
+fn stack_forms() {
+    for (steps, [lwsp, ldsp, swsp, sdsp]) in [
+        (0, [0x4502, 0x6502, 0xC02A, 0xE02A]),
+        (1, [0x4512, 0x6522, 0xC22A, 0xE42A]),
+        (2, [0x4522, 0x6542, 0xC42A, 0xE82A]),
+        (4, [0x4542, 0x7502, 0xC82A, 0xF02A]),
+        (8, [0x5502, 0x6506, 0xD02A, 0xE0AA]),
+        (16, [0x4506, 0x650A, 0xC0AA, 0xE12A]),
+        (32, [0x450A, 0x6512, 0xC12A, 0xE22A]),
+        (63, [0x557E, 0x757E, 0xDFAA, 0xFFAA]),
+    ] {
+        is_stack_load(lwsp, steps * 4, 10, Width::Byte4);
+        is_stack_load(ldsp, steps * 8, 10, Width::Byte8);
+        is_stack_store(swsp, steps * 4, 10, Width::Byte4);
+        is_stack_store(sdsp, steps * 8, 10, Width::Byte8);
+    }
+    // x0 is stored, and not loaded
+    for n in 0..32 {
+        if n > 0 {
+            is_stack_load(0x4002 | n << 7, 0, n, Width::Byte4);
+            is_stack_load(0x707E | n << 7, 504, n, Width::Byte8);
+        }
+        is_stack_store(0xDF82 | n << 2, 252, n, Width::Byte4);
+        is_stack_store(0xE002 | n << 2, 0, n, Width::Byte8);
+    }
 }
 
 #[test]

@@ -1,5 +1,5 @@
-//! The replacement answers as the original does inside the domain that was ported, and panics outside it. (The whole comparison is the
-//! package `compare`; this is the part of it that takes seconds.)
+//! The replacement answers as the original does inside the domain that was ported. Outside it, it reads the forms with the stack pointer
+//! and panics at all else. (The whole comparison is the package `compare`; this is the part of it that takes seconds.)
 
 #[cfg(not(have_miralis))]
 #[test]
@@ -99,15 +99,35 @@ mod run {
         }
     }
 
+    /// The compressed forms with the stack pointer, for which the original has `todo!`.
+    #[test]
+    fn stack_forms() {
+        use monitor::arch::{Register::*, Width};
+        let load = |rd, imm, len| proved::LoadInstr { rd, rs1: X2, imm, len, is_compressed: true, is_unsigned: false };
+        let store = |rs2, imm, len| proved::StoreInstr { rs2, rs1: X2, imm, len, is_compressed: true };
+        for (raw, wanted) in [(0x4502, load(X10, 0, Width::Byte4)), (0x7FFE, load(X31, 504, Width::Byte8))] {
+            let (ours, theirs) = contexts(0, 0);
+            assert_eq!(ours.decode_load(raw), wanted, "{raw:#x}");
+            assert!(catch_unwind(move || theirs.decode_load(raw)).is_err());
+        }
+        for (raw, wanted) in [(0xDFFE, store(X31, 252, Width::Byte4)), (0xE002, store(X0, 0, Width::Byte8))] {
+            let (ours, theirs) = contexts(0, 0);
+            assert_eq!(ours.decode_store(raw), wanted, "{raw:#x}");
+            assert!(catch_unwind(move || theirs.decode_store(raw)).is_err());
+        }
+    }
+
     #[test]
     fn outside() {
-        for (raw, number) in [(0x4502, 5), (0x4501, 3), (0x2000, 3), (0, 3), (0x8005_2287, 3), (0xFEB1_3C23, 3), (0x8005_7283, 4)] {
+        for (raw, number) in
+            [(0x4002, 5), (0xC502, 5), (0x4501, 3), (0x2000, 3), (0, 3), (0x8005_2287, 3), (0xFEB1_3C23, 3), (0x8005_7283, 4)]
+        {
             let (ours, _) = contexts(0, 0);
             assert_eq!(ours.try_decode_load(raw).unwrap_err().number(), number, "{raw:#x}");
             let text = *catch_unwind(move || ours.decode_load(raw)).unwrap_err().downcast::<String>().unwrap();
             assert!(text.starts_with(&format!("no load: {raw:#x} is refused with {number} (")), "{text}");
         }
-        for (raw, number) in [(0xC502, 5), (0xC501, 3), (0x4000, 3), (0x8005_2283, 3), (0xFEB1_4C23, 4)] {
+        for (raw, number) in [(0x4502, 5), (0xC501, 3), (0x4000, 3), (0x8005_2283, 3), (0xFEB1_4C23, 4)] {
             let (ours, _) = contexts(0, 0);
             assert_eq!(ours.try_decode_store(raw).unwrap_err().number(), number, "{raw:#x}");
             assert!(catch_unwind(move || ours.decode_store(raw)).is_err());
