@@ -5,6 +5,7 @@
 //!                      read as it is printed
 //! judges write         prints one line of assembler for each instruction that the library writes here
 //! judges check FILE    the bytes of FILE, which an assembler made of these lines, are the words that the library writes
+//! judges halves        prints one line of assembler for each halfword that is an instruction by itself
 //! ```
 
 use std::collections::BTreeMap;
@@ -24,8 +25,9 @@ fn main() {
         ["read", name] => read(name),
         ["write"] => write(),
         ["check", file] => check(file),
+        ["halves"] => halves(),
         _ => {
-            eprintln!("usage: judges read NAME | write | check FILE");
+            eprintln!("usage: judges read NAME | write | check FILE | halves");
             exit(2);
         }
     }
@@ -55,6 +57,8 @@ fn text(instr: Instr) -> String {
         Width::Byte8 => "d",
     };
     let c = |compressed: bool| if compressed { "c." } else { "" };
+    // a compressed form with the stack pointer has it in its name too
+    let sp = |compressed: bool, base: Register| if compressed && base == Register::X2 { "sp" } else { "" };
     match instr {
         Instr::Illegal(i) => match i {
             Wfi => "wfi".into(),
@@ -72,14 +76,18 @@ fn text(instr: Instr) -> String {
         },
         Instr::Load(l) => {
             let u = if l.is_unsigned { "u" } else { "" };
-            format!("{}l{}{u} {},{}({})", c(l.is_compressed), size(l.len), x(l.rd), l.imm, x(l.rs1))
+            let (c, sp) = (c(l.is_compressed), sp(l.is_compressed, l.rs1));
+            format!("{c}l{}{u}{sp} {},{}({})", size(l.len), x(l.rd), l.imm, x(l.rs1))
         }
-        Instr::Store(s) => format!("{}s{} {},{}({})", c(s.is_compressed), size(s.len), x(s.rs2), s.imm, x(s.rs1)),
+        Instr::Store(s) => {
+            let (c, sp) = (c(s.is_compressed), sp(s.is_compressed, s.rs1));
+            format!("{c}s{}{sp} {},{}({})", size(s.len), x(s.rs2), s.imm, x(s.rs1))
+        }
     }
 }
 
 /// What is read: the mnemonics whose words the library accepts.
-const OURS: [&str; 27] = [
+const OURS: [&str; 31] = [
     "lb",
     "lh",
     "lw",
@@ -89,12 +97,16 @@ const OURS: [&str; 27] = [
     "lwu",
     "c.lw",
     "c.ld",
+    "c.lwsp",
+    "c.ldsp",
     "sb",
     "sh",
     "sw",
     "sd",
     "c.sw",
     "c.sd",
+    "c.swsp",
+    "c.sdsp",
     "wfi",
     "mret",
     "sret",
@@ -144,6 +156,31 @@ fn by_name(mnemonic: &str, operand: &str) -> String {
     }
 }
 
+/// The three readings of a word.
+type Readings = [Result<Instr, Refusal>; 3];
+
+/// What is read, in the assembler's words: one of the three at most.
+fn texts(readings: &Readings) -> Vec<String> {
+    readings.iter().flatten().map(|i| text(*i)).collect()
+}
+
+/// Whether the library reads a word as it is printed, and the class that the word is counted in.
+fn judged<'a>(word: u64, said: &'a str, readings: &Readings) -> (bool, &'a str) {
+    let mnemonic = said.split(' ').next().unwrap_or_default();
+    let half = word & 3 != 3;
+    // a CSR that is in no profile is printed by its name, and refused with 2
+    let missing = readings[0] == Err(Refusal::InvalidCsrOp) && full().decode_csr(word as usize >> 20).is_none();
+    // what is no CSR form and no load or store is refused by all three
+    let number = if word & 3 == 2 { 5 } else { 3 };
+    let refused = [1, number, number].into_iter().eq(readings.iter().map(|r| r.map_or_else(|r| r.number(), |_| 0)));
+    match mnemonic {
+        _ if !half && (mnemonic == "<unknown>" || mnemonic.starts_with('.')) => (true, "words not known to it: not judged"),
+        _ if mnemonic.starts_with("csrr") && missing => (texts(readings).is_empty(), "CSR forms of a CSR that is in no profile: refused"),
+        _ if OURS.contains(&mnemonic) => (texts(readings) == [said], mnemonic),
+        _ => (refused, if half { "other halfwords: refused" } else { "other words: refused" }),
+    }
+}
+
 fn read(name: &str) {
     let mut input = String::new();
     if let Err(e) = std::io::stdin().read_to_string(&mut input) {
@@ -161,28 +198,12 @@ fn read(name: &str) {
             hart.decode_load(raw).map(Instr::from),
             hart.decode_store(raw).map(Instr::from),
         ];
-        let read: Vec<String> = readings.iter().flatten().map(|i| text(*i)).collect();
-        let mnemonic = said.split(' ').next().unwrap_or_default();
-        // a CSR that is in no profile is printed by its name, and refused with 2
-        let refused = mnemonic.starts_with("csrr") && readings[0] == Err(Refusal::InvalidCsrOp) && hart.decode_csr(raw >> 20).is_none();
-        let (same, class) = if mnemonic == "<unknown>" || mnemonic.starts_with('.') {
-            (true, "not known to it: not judged".into())
-        } else if OURS.contains(&mnemonic) && !refused {
-            (read == [said.clone()], mnemonic.to_string())
-        } else if refused {
-            (read.is_empty(), "CSR forms of a CSR that is in no profile: refused".into())
-        } else {
-            let wanted = [1, if word & 3 == 2 { 5 } else { 3 }];
-            let numbers = [0, 1, 2].map(|k: usize| readings[k].err().map_or(0, |r| r.number()));
-            // what is no CSR form and no load or store is refused by all three
-            let good = numbers == [wanted[0], wanted[1], wanted[1]];
-            (good, if word & 3 == 3 { "other words: refused" } else { "other halfwords: refused" }.into())
-        };
-        *counts.entry(class).or_default() += 1;
+        let (same, class) = judged(word, &said, &readings);
+        *counts.entry(class.into()).or_default() += 1;
         if !same {
             differ += 1;
             if differ <= 10 {
-                println!("  {word:#X}: {name} prints {said:?}, the library reads {read:?} {readings:?}");
+                println!("  {word:#X}: {name} prints {said:?}, the library reads {:?} {readings:?}", texts(&readings));
             }
         }
     }
@@ -193,31 +214,46 @@ fn read(name: &str) {
     exit(if differ == 0 && all > 0 { 0 } else { 1 });
 }
 
+/// The edges of a register field: each bit alone, none, all.
+const EDGES: [usize; 7] = [0, 1, 2, 4, 8, 16, 31];
+
+const WIDTHS: [Width; 4] = [Width::Byte, Width::Byte2, Width::Byte4, Width::Byte8];
+
 /// The instructions that are written, each with the word that the library writes: those of 32 bits, then the compressed ones.
 fn instructions() -> [Vec<(Instr, u32)>; 2] {
-    const EDGES: [usize; 7] = [0, 1, 2, 4, 8, 16, 31];
     let hart = full();
-    let mut all: Vec<Instr> = vec![IllegalInst::Wfi.into(), IllegalInst::Mret.into(), IllegalInst::Sret.into()];
     let pairs: Vec<(Register, Register)> = EDGES.iter().flat_map(|a| EDGES.map(|b| (Register::from(*a), Register::from(b)))).collect();
-    for &(rs1, rs2) in &pairs {
-        all.push(IllegalInst::Sfencevma { rs1, rs2 }.into());
-        all.push(IllegalInst::Hfencevvma { rs1, rs2 }.into());
-        all.push(IllegalInst::Hfencegvma { rs1, rs2 }.into());
+    let long = [system(&hart, &pairs), accesses(&pairs)].concat();
+    // what it refuses to write has no word
+    [long, compressed()].map(|all| all.into_iter().filter_map(|i| hart.encode(i).ok().map(|w| (i, w))).collect())
+}
+
+fn system(hart: &Profile, pairs: &[(Register, Register)]) -> Vec<Instr> {
+    let mut all = vec![IllegalInst::Wfi, IllegalInst::Mret, IllegalInst::Sret];
+    for &(rs1, rs2) in pairs {
+        all.push(IllegalInst::Sfencevma { rs1, rs2 });
+        all.push(IllegalInst::Hfencevvma { rs1, rs2 });
+        all.push(IllegalInst::Hfencegvma { rs1, rs2 });
     }
     for csr in (0..4096).filter_map(|a| hart.decode_csr(a)) {
         for (rd, rs1) in [(0, 0), (5, 0), (31, 0), (0, 1), (1, 31), (10, 16)] {
             let (uimm, rd, rs1) = (rs1, Register::from(rd), Register::from(rs1));
-            all.push(IllegalInst::Csrrw { csr, rd, rs1 }.into());
-            all.push(IllegalInst::Csrrs { csr, rd, rs1 }.into());
-            all.push(IllegalInst::Csrrc { csr, rd, rs1 }.into());
-            all.push(IllegalInst::Csrrwi { csr, rd, uimm }.into());
-            all.push(IllegalInst::Csrrsi { csr, rd, uimm }.into());
-            all.push(IllegalInst::Csrrci { csr, rd, uimm }.into());
+            all.push(IllegalInst::Csrrw { csr, rd, rs1 });
+            all.push(IllegalInst::Csrrs { csr, rd, rs1 });
+            all.push(IllegalInst::Csrrc { csr, rd, rs1 });
+            all.push(IllegalInst::Csrrwi { csr, rd, uimm });
+            all.push(IllegalInst::Csrrsi { csr, rd, uimm });
+            all.push(IllegalInst::Csrrci { csr, rd, uimm });
         }
     }
-    let widths = [Width::Byte, Width::Byte2, Width::Byte4, Width::Byte8];
-    for len in widths {
-        for &(a, b) in &pairs {
+    all.into_iter().map(Instr::from).collect()
+}
+
+/// Loads and stores of 32 bits, some that have no form among them.
+fn accesses(pairs: &[(Register, Register)]) -> Vec<Instr> {
+    let mut all: Vec<Instr> = Vec::new();
+    for len in WIDTHS {
+        for &(a, b) in pairs {
             for imm in [0, 1, -1, 2, 4, 8, 16, 31, 32, 64, 128, 256, 512, 1024, 2047, -2048, -1024, 1365, -1366] {
                 for is_unsigned in [false, true] {
                     all.push(LoadInstr { rd: a, rs1: b, imm, len, is_compressed: false, is_unsigned }.into());
@@ -226,26 +262,28 @@ fn instructions() -> [Vec<(Instr, u32)>; 2] {
             }
         }
     }
-    // all compressed ones, and many that are none
-    for len in widths {
+    all
+}
+
+/// All compressed loads and stores, and many that are none: with a base of x8 to x15, then with the stack pointer.
+fn compressed() -> Vec<Instr> {
+    let mut all: Vec<Instr> = Vec::new();
+    let mut one = |a: usize, b: usize, imm, len| {
+        let (a, b) = (Register::from(a), Register::from(b));
+        all.push(LoadInstr { rd: a, rs1: b, imm, len, is_compressed: true, is_unsigned: false }.into());
+        all.push(StoreInstr { rs2: a, rs1: b, imm, len, is_compressed: true }.into());
+    };
+    for len in WIDTHS {
         for a in 7..17 {
             for b in 7..17 {
-                for imm in -4..=260 {
-                    let (a, b) = (Register::from(a), Register::from(b));
-                    all.push(LoadInstr { rd: a, rs1: b, imm, len, is_compressed: true, is_unsigned: false }.into());
-                    all.push(StoreInstr { rs2: a, rs1: b, imm, len, is_compressed: true }.into());
-                }
+                (-4..=260).for_each(|imm| one(a, b, imm, len));
             }
         }
+        for a in 0..32 {
+            (-8..=520).for_each(|imm| one(a, 2, imm, len));
+        }
     }
-    let compressed = |i: &Instr| match i {
-        Instr::Illegal(_) => false,
-        Instr::Load(l) => l.is_compressed,
-        Instr::Store(s) => s.is_compressed,
-    };
-    // what it refuses to write has no word
-    let (short, long) = all.into_iter().filter_map(|i| hart.encode(i).ok().map(|w| (i, w))).partition(|(i, _)| compressed(i));
-    [long, short]
+    all
 }
 
 fn write() {
@@ -254,6 +292,10 @@ fn write() {
     long.iter().for_each(|(i, _)| println!("{}", text(*i)));
     println!(".option rvc");
     short.iter().for_each(|(i, _)| println!("{}", text(*i)));
+}
+
+fn halves() {
+    (0..0x1_0000).filter(|half| half & 3 != 3).for_each(|half| println!(".insn {half:#x}"));
 }
 
 fn check(file: &str) {
