@@ -3,12 +3,10 @@
 use std::hint::black_box;
 use std::time::Instant;
 
-use compare::Reading;
 use compare::sides::{Library, Original, Side};
+use compare::{Reading, domain};
 
 use crate::streams::{self, PROFILE, Stream};
-
-pub const NAMES: [&str; 4] = ["rust-inlined", "rust", "library", "crate"];
 
 /// What the cases read under.
 struct Under {
@@ -66,63 +64,100 @@ over_library!(library_system, read_system);
 over_library!(library_load, read_load);
 over_library!(library_store, read_store);
 
-type Case = [fn(&Under, &[u64]); 3];
+/// A case, by the loop of each reading.
+struct Case {
+    name: &'static str,
+    is_rust: bool,
+    work: [fn(&Under, &[u64]); 3],
+}
 
 const CASES: [Case; 4] = [
-    [inlined_system, inlined_load, inlined_store],
-    [rust_system, rust_load, rust_store],
-    [library_system, library_load, library_store],
-    [crate_system, crate_load, crate_store],
+    Case { name: "rust-inlined", is_rust: true, work: [inlined_system, inlined_load, inlined_store] },
+    Case { name: "rust", is_rust: true, work: [rust_system, rust_load, rust_store] },
+    Case { name: "library", is_rust: false, work: [library_system, library_load, library_store] },
+    Case { name: "crate", is_rust: false, work: [crate_system, crate_load, crate_store] },
 ];
 
-fn run(case: &Case, under: &Under, stream: &Stream) {
-    for (work, words) in case.iter().zip(&stream.words) {
-        if !words.is_empty() {
-            work(under, words);
+impl Case {
+    /// The words of a stream that this case reads.
+    fn words(&self, stream: &Stream) -> Stream {
+        if self.is_rust { stream.readable() } else { stream.clone() }
+    }
+
+    fn run(&self, under: &Under, stream: &Stream) {
+        for (work, words) in self.work.iter().zip(&stream.words) {
+            if !words.is_empty() {
+                work(under, words);
+            }
         }
     }
 }
 
-/// The Rust and the library answer alike on all words of a stream, or there is nothing to time.
+/// The library answers each word of a stream as the Rust does, or as is wanted where the Rust cannot read it; else there is nothing to
+/// time.
 fn assert_same(stream: &Stream) {
     let (rust, library) = (Original::new(PROFILE), Library::new(PROFILE));
     for reading in Reading::ALL {
         for &word in &stream.words[reading as usize] {
-            assert_eq!(rust.read(reading, word), library.read(reading, word), "{} {word:#X}", reading.name());
+            let wanted = if domain::contains(reading, word) { rust.read(reading, word) } else { domain::wanted(reading, word) };
+            assert_eq!(wanted, library.read(reading, word), "{} {word:#X}", reading.name());
         }
     }
 }
 
+pub fn names() {
+    CASES.iter().for_each(|case| println!("{}", case.name));
+}
+
+/// Each stream, and how many words of it each case reads.
+pub fn streams() {
+    for stream in streams::all() {
+        let counts = CASES.map(|case| case.words(&stream).len().to_string());
+        println!("{} {}", stream.name, counts.join(" "));
+    }
+}
+
 pub fn time() {
-    const ROUNDS: usize = 400;
+    println!("| stream | case | words | best ns | median ns |\n|---|---|---|---|---|");
     let under = black_box(Under::new());
-    println!("| stream | words | case | best ns | median ns |\n|---|---|---|---|---|");
     for stream in streams::all() {
         assert_same(&stream);
-        // a round is long enough for the clock
-        let repeat = 20_000usize.div_ceil(stream.len());
-        let mut took: [Vec<f64>; 4] = Default::default();
-        for _ in 0..ROUNDS {
-            for (case, took) in CASES.iter().zip(&mut took) {
-                let began = Instant::now();
-                for _ in 0..repeat {
-                    run(case, &under, &stream);
-                }
-                took.push(began.elapsed().as_secs_f64() * 1e9 / (repeat * stream.len()) as f64);
-            }
-        }
-        for (name, took) in NAMES.iter().zip(&mut took) {
-            took.sort_by(f64::total_cmp);
-            println!("| {} | {} | {name} | {:.2} | {:.2} |", stream.name, stream.len(), took[0], took[ROUNDS / 2]);
+        for (case, took) in CASES.iter().zip(time_all(&under, &stream)) {
+            let line = match &took[..] {
+                [] => "- | - | -".into(),
+                took => format!("{} | {:.2} | {:.2}", case.words(&stream).len(), took[0], took[took.len() / 2]),
+            };
+            println!("| {} | {} | {line} |", stream.name, case.name);
         }
     }
+}
+
+/// How long each case takes for a word, in rounds that take turns: from the best up, or none where the case reads no word.
+fn time_all(under: &Under, stream: &Stream) -> [Vec<f64>; 4] {
+    const ROUNDS: usize = 400;
+    let streams = CASES.map(|case| case.words(stream));
+    let mut took: [Vec<f64>; 4] = Default::default();
+    for _ in 0..ROUNDS {
+        for ((case, stream), took) in CASES.iter().zip(&streams).zip(&mut took).filter(|((_, stream), _)| stream.len() > 0) {
+            // a round is long enough for the clock
+            let repeat = 20_000usize.div_ceil(stream.len());
+            let began = Instant::now();
+            for _ in 0..repeat {
+                case.run(under, stream);
+            }
+            took.push(began.elapsed().as_secs_f64() * 1e9 / (repeat * stream.len()) as f64);
+        }
+    }
+    took.iter_mut().for_each(|took| took.sort_by(f64::total_cmp));
+    took
 }
 
 pub fn count(stream: &str, case: &str, times: u32) {
     let under = black_box(Under::new());
     let stream = streams::all().into_iter().find(|s| s.name == stream);
-    let (Some(stream), Some(case)) = (stream, NAMES.iter().position(|name| *name == case)) else { return crate::usage() };
+    let (Some(stream), Some(case)) = (stream, CASES.iter().find(|c| c.name == case)) else { return crate::usage() };
+    let words = case.words(&stream);
     for _ in 0..times {
-        run(&CASES[case], &under, &stream);
+        case.run(&under, &words);
     }
 }

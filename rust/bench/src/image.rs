@@ -1,7 +1,7 @@
 //! The instructions of an ELF image's .text section, one after the other from its start.
 
-/// The words of .text, each with its length in bytes: 2 or 4 by its low two bits.
-pub fn words(elf: &[u8]) -> Option<Vec<(u64, usize)>> {
+/// The words of .text, each of 2 or 4 bytes by its low two bits.
+pub fn words(elf: &[u8]) -> Option<Vec<u64>> {
     let text = section(elf, b".text")?;
     let mut words = Vec::new();
     let mut at = 0;
@@ -13,7 +13,7 @@ pub fn words(elf: &[u8]) -> Option<Vec<(u64, usize)>> {
             (_, Some(four)) => u32::from_le_bytes(four.try_into().ok()?) as u64,
             _ => break,
         };
-        words.push((word, len));
+        words.push(word);
         at += len;
     }
     Some(words)

@@ -4,11 +4,12 @@
 //! bench                       best and median of many rounds, all cases interleaved, in ns per word
 //! bench count STREAM CASE N   runs one case N times over a stream: the difference of two such runs counts its instructions
 //! bench count listing CASE N  the same for the listing of a log of 1 MB
-//! bench streams, bench cases  the streams and how many words each has, the cases
+//! bench streams, bench cases  the streams and how many words of each every case reads, the cases
 //! bench listing               the listing of a log of 64 MB
 //! ```
 //!
-//! OPENSBI_ELF names the image whose words are two of the streams; without it there is only the third.
+//! OPENSBI_ELF names the image whose words are the first five streams; without it there is only the sixth. A case reads those words of
+//! a stream that it can read, and all figures are for each word that it reads.
 //!
 //! This program has Miralis's text in itself a second time (as the package `oracle` has it): only so can it be inlined here.
 
@@ -66,12 +67,8 @@ fn main() {
             Ok(times) => cases::count(stream, case, times),
             Err(_) => usage(),
         },
-        ["streams"] => {
-            for stream in streams::all() {
-                println!("{} {}", stream.name, stream.len());
-            }
-        }
-        ["cases"] => cases::NAMES.iter().for_each(|name| println!("{name}")),
+        ["streams"] => cases::streams(),
+        ["cases"] => cases::names(),
         ["listing"] => listing::time(),
         _ => usage(),
     }
