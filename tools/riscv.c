@@ -103,7 +103,8 @@ static void hold(unsigned line, uint64_t answer, uint64_t wanted) {
 #define HOLD(answer, wanted) hold(__LINE__, answer, wanted)
 #define REFUSED(number) ((uint64_t)(number) << 32)
 
-/* Document 01's words at the edges and its further ones, under the empty profile: the reading, the word, and the instruction word. */
+/* Document 01's words at the edges and its further ones, then words with low two bits 10, under the empty profile: the reading, the
+ * word, and the instruction word. */
 static const struct {
     uint64_t reading, raw, answer;
 } WORDS[] = {
@@ -125,6 +126,20 @@ static const struct {
     {1, 0x7D64, 0x00F80A09010807},     /* load 64, rd 9, base 10, 248 */
     {1, 0x2000, 0x030109},
     {1, 0, 0x030109},
+    {1, 0x4502, 0x0000020A010407}, /* c.lwsp x10,0(x2) */
+    {1, 0x50FE, 0x00FC0201010407}, /* c.lwsp x1,252(x2) */
+    {1, 0x6502, 0x0000020A010807}, /* c.ldsp x10,0(x2) */
+    {1, 0x7FFE, 0x01F8021F010807}, /* c.ldsp x31,504(x2) */
+    {2, 0xC502, 0x00880002010408}, /* c.swsp x0,136(x2) */
+    {2, 0xDFFE, 0x00FC1F02010408}, /* c.swsp x31,252(x2) */
+    {2, 0xE002, 0x00000002010808}, /* c.sdsp x0,0(x2) */
+    {2, 0xFFFE, 0x01F81F02010808}, /* c.sdsp x31,504(x2) */
+    {1, 0x4002, 0x050109},         /* 5: a load with rd 0, the other reading's form, c.ebreak */
+    {1, 0x6002, 0x050109},
+    {1, 0xC502, 0x050109},
+    {2, 0x4502, 0x050209},
+    {1, 0x9002, 0x050109},
+    {2, 0x9002, 0x050209},
 };
 
 static uint64_t reading(uint64_t which, uint64_t flags, uint64_t custom, uint64_t raw) {
@@ -141,12 +156,30 @@ static void hold_words(void) {
     }
 }
 
+/* What is no compressed form with the stack pointer, in document 01's order of numbers. */
+static void hold_stack_writes(void) {
+    HOLD(matnosoru_write(0, 0, 0x00010220010107), REFUSED(6));  /* rd 32, of a width and with an immediate that no form has */
+    HOLD(matnosoru_write(0, 0, 0x00012002010208), REFUSED(6));  /* rs2 32, the same */
+    HOLD(matnosoru_write(0, 0, 0x00010200010407), REFUSED(9));  /* rd 0 */
+    HOLD(matnosoru_write(0, 0, 0x0001020A030807), REFUSED(9));  /* unsigned */
+    HOLD(matnosoru_write(0, 0, 0x00010802010208), REFUSED(9));  /* 16 bits */
+    HOLD(matnosoru_write(0, 0, 0x0100020A010407), REFUSED(10)); /* 32 bits, 256 */
+    HOLD(matnosoru_write(0, 0, 0x02000802010808), REFUSED(10)); /* 64 bits, 512 */
+    HOLD(matnosoru_write(0, 0, 0x00040802010808), REFUSED(10)); /* 64 bits, 4 */
+}
+
 /* Document 01's 35 bytes and their lines. */
 static const uint8_t LOG[35] = {0x0A, 0, 0, 0, 0, 0, 0, 0, 0, 0, 0, 0x05, 0x02, 0x14, 0x0F, 0x05, 0x00, 0x07,
                                 0x04, 0x00, 0x05, 0x0A, 0x00, 0xF8, 0x09, 0x00, 0x02, 0x73, 0x10, 0x40, 0xF1, 0, 0, 0, 0};
 static const char LISTING[] = "at kind answer\n0 0A hart 0\n11 05 F14022F3\n17 07 80052283\n24 09 refused 2\nend 35\n";
 static const char SPOILT[] = "at kind answer\n0 0A hart 0\n11 05 F14022F3\nbad 13 at 17\n";
 static const char NOTHING[] = "at kind answer\nend 0\n";
+/* Two words refused with 5, as an older log has them, and the same words read. */
+static const uint8_t OLD[36] = {0x09, 0x01, 0x05, 0x02, 0x45, 0, 0, 0, 0, 0, 0,
+                                0x09, 0x02, 0x05, 0x02, 0xC5, 0, 0, 0, 0, 0, 0,
+                                0x07, 0x04, 0x01, 0x0A, 0x02, 0x00, 0x00,
+                                0x08, 0x04, 0x01, 0x02, 0x00, 0x88, 0x00};
+static const char OLD_LISTING[] = "at kind answer\n0 09 refused 5\n11 09 refused 5\n22 07 4502\n29 08 C502\nend 36\n";
 
 static void hold_listing(const uint8_t *log, size_t len, const char *wanted, size_t wanted_len) {
     list(log, len, put_bytes);
@@ -159,6 +192,7 @@ static void hold_log(void) {
     uint8_t spoilt[sizeof LOG], state[MATNOSORU_STATE_LENGTH], other[MATNOSORU_STATE_LENGTH], record[MATNOSORU_LONGEST_RECORD];
     hold_listing(LOG, sizeof LOG, LISTING, sizeof LISTING - 1);
     hold_listing(NULL, 0, NOTHING, sizeof NOTHING - 1);
+    hold_listing(OLD, sizeof OLD, OLD_LISTING, sizeof OLD_LISTING - 1);
     memcpy(spoilt, LOG, sizeof LOG);
     spoilt[18] = 3; /* no load has this width */
     hold_listing(spoilt, sizeof LOG, SPOILT, sizeof SPOILT - 1);
@@ -222,12 +256,13 @@ static void hold_rest(void) {
 
 /* A random word, or one that is a few bits from an instruction. */
 static uint64_t raw_word(void) {
-    static const uint64_t seeds[12][2] = {
+    static const uint64_t seeds[14][2] = {
         {0x10500073, 0}, {0x30200073, 0}, {0x10200073, 0}, {0x12000073, 0x01FF8000}, {0x22000073, 0x01FF8000}, {0x62000073, 0x01FF8000},
-        {0x73, 0xFFFFFF80}, {0x7C000073, 0x03FFFF80}, {0x03, 0xFFFFFF80}, {0x23, 0xFFFFFF80}, {0x4000, 0x3FFC}, {0xC000, 0x3FFC}};
+        {0x73, 0xFFFFFF80}, {0x7C000073, 0x03FFFF80}, {0x03, 0xFFFFFF80}, {0x23, 0xFFFFFF80}, {0x4000, 0x3FFC}, {0xC000, 0x3FFC},
+        {0x4002, 0x3FFC}, {0xC002, 0x3FFC}};
     uint64_t pick = next(), any = next();
     if (pick % 8 == 0) return any;
-    uint64_t word = seeds[(pick >> 8) % 12][0] | (any & seeds[(pick >> 8) % 12][1]);
+    uint64_t word = seeds[(pick >> 8) % 14][0] | (any & seeds[(pick >> 8) % 14][1]);
     if (pick >> 16 & 1) word ^= (uint64_t)1 << (pick >> 24 & 63);
     if ((pick >> 17 & 3) == 0) word ^= any & ~(uint64_t)0xFFFFFFFF;
     return word;
@@ -306,6 +341,7 @@ static void round_of(int round) {
 
 void begin(void) {
     hold_words();
+    hold_stack_writes();
     hold_log();
     hold_rest();
     for (int round = 0; round < ROUNDS; round++) {
