@@ -118,17 +118,16 @@ pub fn streams() {
 }
 
 pub fn time() {
-    println!("| stream | case | words | best ns | median ns |\n|---|---|---|---|---|");
     let under = black_box(Under::new());
+    let names = CASES.map(|case| case.name).join(" | ");
+    println!("| ns per word, best (median) | {names} |\n|---|---|---|---|---|");
     for stream in streams::all() {
         assert_same(&stream);
-        for (case, took) in CASES.iter().zip(time_all(&under, &stream)) {
-            let line = match &took[..] {
-                [] => "- | - | -".into(),
-                took => format!("{} | {:.2} | {:.2}", case.words(&stream).len(), took[0], took[took.len() / 2]),
-            };
-            println!("| {} | {} | {line} |", stream.name, case.name);
-        }
+        let cells = time_all(&under, &stream).map(|took| match &took[..] {
+            [] => "-".into(),
+            took => format!("{:.1} ({:.1})", took[0], took[took.len() / 2]),
+        });
+        println!("| {} | {} |", stream.name, cells.join(" | "));
     }
 }
 

@@ -4,7 +4,7 @@
 //! bench                       best and median of many rounds, all cases interleaved, in ns per word
 //! bench count STREAM CASE N   runs one case N times over a stream: the difference of two such runs counts its instructions
 //! bench count listing CASE N  the same for the listing of a log of 1 MB
-//! bench streams, bench cases  the streams and how many words of each every case reads, the cases
+//! bench streams, bench cases  the streams, each with how many of its words every case reads; the cases
 //! bench listing               the listing of a log of 64 MB
 //! ```
 //!
