@@ -3,7 +3,7 @@
 use Prim.Native.Nat.{ℕ}
 use mathlib.Core.List.{List, [], _∷_, _++_}
 use Rattle.forms.specs.Layout.{Layout, Operand, rd, rs1, rs2, funct}
-use Rattle.forms.specs.Segments.{fix, field, uimm, simm, reg, creg, equal, except, aligned, long, compressed}
+use Rattle.forms.specs.Segments.{fix, field, uimm, simm, reg, creg, equal, except, aligned, is, not-x0, long, compressed}
 
 -- ---- formats of compressed words that loads and stores share: funct3 is f, and x the register that is loaded or stored
 -- C.LW, C.SW: uimm[5:3] | rs1' | uimm[2|6] | x'
@@ -25,8 +25,16 @@ c-lw = c-word 0b010 rd ++ equal funct 3 0b010 ++ compressed
 abbrev pub c-ld : Layout
 c-ld = c-double 0b011 rd ++ equal funct 3 0b011 ++ compressed
 
+-- C.LWSP: uimm[5] | rd | uimm[4:2|7:6]; the base is sp, and rd 0 is reserved
+abbrev pub c-lwsp : Layout
+c-lwsp = fix 3 0b010 ++ uimm 5 5 ++ reg rd ++ uimm 4 2 ++ uimm 7 6 ++ fix 2 0b10 ++ aligned 2 ++ is rs1 2 ++ not-x0 rd ++ equal funct 3 0b010 ++ compressed
+
+-- C.LDSP: uimm[5] | rd | uimm[4:3|8:6]; the same
+abbrev pub c-ldsp : Layout
+c-ldsp = fix 3 0b011 ++ uimm 5 5 ++ reg rd ++ uimm 4 3 ++ uimm 8 6 ++ fix 2 0b10 ++ aligned 3 ++ is rs1 2 ++ not-x0 rd ++ equal funct 3 0b011 ++ compressed
+
 abbrev pub loads : List Layout
-loads = load ∷ c-lw ∷ c-ld ∷ []
+loads = load ∷ c-lw ∷ c-ld ∷ c-lwsp ∷ c-ldsp ∷ []
 
 -- ---- stores: funct3 of the 32-bit store is 0 to 3, and the operand funct its two low bits, the width
 -- SB, SH, SW, SD: imm[11:5] | rs2 | rs1 | funct3 | imm[4:0]
@@ -39,5 +47,13 @@ c-sw = c-word 0b110 rs2 ++ equal funct 2 0b10 ++ compressed
 abbrev pub c-sd : Layout
 c-sd = c-double 0b111 rs2 ++ equal funct 2 0b11 ++ compressed
 
+-- C.SWSP: uimm[5:2|7:6] | rs2; the base is sp
+abbrev pub c-swsp : Layout
+c-swsp = fix 3 0b110 ++ uimm 5 2 ++ uimm 7 6 ++ reg rs2 ++ fix 2 0b10 ++ aligned 2 ++ is rs1 2 ++ equal funct 2 0b10 ++ compressed
+
+-- C.SDSP: uimm[5:3|8:6] | rs2; the base is sp
+abbrev pub c-sdsp : Layout
+c-sdsp = fix 3 0b111 ++ uimm 5 3 ++ uimm 8 6 ++ reg rs2 ++ fix 2 0b10 ++ aligned 3 ++ is rs1 2 ++ equal funct 2 0b11 ++ compressed
+
 abbrev pub stores : List Layout
-stores = store ∷ c-sw ∷ c-sd ∷ []
+stores = store ∷ c-sw ∷ c-sd ∷ c-swsp ∷ c-sdsp ∷ []

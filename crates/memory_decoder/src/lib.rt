@@ -1,11 +1,11 @@
-// Loads and stores, register-based compressed ones included, and how a word is read as one: `decode_load` and `decode_store` of Miralis's
-// src/decoder.rs.
+// Loads and stores, the compressed ones among them, and how a word is read as one: `decode_load` and `decode_store` of Miralis's
+// src/decoder.rs, with the stack-based forms that are `todo!` there.
 ghost use mathlib.Core.Path.{_≡_};
 ghost use Prim.Native.Nat.{_+_, _%_, _^_, _<_};
 ghost use Rattle.utils.specs.Field.{fld};
 ghost use Rattle.utils.specs.Signed.{signed};
 ghost use Rattle.forms.specs.Layout.{read, imm};
-ghost use Rattle.memory_decoder.specs.Forms.{c-lw, c-ld};
+ghost use Rattle.memory_decoder.specs.Forms.{c-lw, c-ld, c-lwsp, c-ldsp, c-swsp, c-sdsp};
 ghost use Rattle.memory_decoder.specs.Funct3.{widthOf};
 ghost use Rattle.memory_decoder.specs.Load.{loadDef, uncompressedLoadDef, compressedLoadDef};
 ghost use Rattle.memory_decoder.specs.Store.{storeDef, uncompressedStoreDef, compressedStoreDef};
@@ -19,11 +19,26 @@ const C_LW: usize = 0b010;
 // Compressed Load Double word opcode
 const C_LD: usize = 0b011;
 
+// Compressed Load Word opcode, stack-based
+const C_LWSP: usize = 0b010;
+
+// Compressed Load Double word opcode, stack-based
+const C_LDSP: usize = 0b011;
+
 // Compressed Store Word opcode
 const C_SW: usize = 0b110;
 
 // Compressed Store Double word opcode
 const C_SD: usize = 0b111;
+
+// Compressed Store Word opcode, stack-based
+const C_SWSP: usize = 0b110;
+
+// Compressed Store Double word opcode, stack-based
+const C_SDSP: usize = 0b111;
+
+// The stack pointer, which is the base of the stack-based forms
+const SP: Register = Register(2);
 
 // A load (register-based) instruction.
 pub struct LoadInstr {
@@ -82,12 +97,11 @@ pub fn decode_compressed_load(ctx: Profile, raw: usize) -> LoadRead
 {
     match extract_last_two_bits(raw) {
         // Register-based load and store instructions for C set start with 0b00
-        0b00 => {}
+        0b00 => decode_register_based_compressed_load(ctx, raw),
         // Stack-based load and store instructions for C set start with 0b10
-        0b10 => return LoadRead::Refused(refusals::STACK_FORM),
-        _ => return LoadRead::Refused(refusals::NOT_THE_FORM),
+        0b10 => decode_stack_based_compressed_load(ctx, raw),
+        _ => LoadRead::Refused(refusals::NOT_THE_FORM),
     }
-    decode_register_based_compressed_load(ctx, raw)
 }
 
 fn decode_register_based_compressed_load(ctx: Profile, raw: usize) -> LoadRead
@@ -119,18 +133,49 @@ fn decode_register_based_compressed_load(ctx: Profile, raw: usize) -> LoadRead
     }
 }
 
+fn decode_stack_based_compressed_load(ctx: Profile, raw: usize) -> LoadRead
+    requires { ⌜ raw % 2 ^ 2 ≡ 0b10 ⌝ }
+    ensures { λ r. ⌜ r ≡ compressedLoadDef ctx raw ⌝ }
+{
+    let func3 = (raw >> 13) & 0b111;
+    let rd = registers::register_at(raw, 7);
+    // rd 0 is reserved
+    if rd.0 == 0 {
+        return LoadRead::Refused(refusals::STACK_FORM);
+    }
+
+    match func3 {
+        C_LWSP => LoadRead::Load(LoadInstr {
+            rd,
+            rs1: SP,
+            imm: stack_load_word_imm(raw),
+            len: Width::Byte4,
+            is_compressed: true,
+            is_unsigned: false,
+        }),
+        C_LDSP => LoadRead::Load(LoadInstr {
+            rd,
+            rs1: SP,
+            imm: stack_load_double_imm(raw),
+            len: Width::Byte8,
+            is_compressed: true,
+            is_unsigned: false,
+        }),
+        _ => LoadRead::Refused(refusals::STACK_FORM),
+    }
+}
+
 // Decodes a compressed store. A word of 32 bits is not of the form.
 pub fn decode_compressed_store(ctx: Profile, raw: usize) -> StoreRead
     ensures { λ r. ⌜ r ≡ compressedStoreDef ctx raw ⌝ }
 {
     match extract_last_two_bits(raw) {
         // Register-based load and store instructions for C set start with 0b00
-        0b00 => {}
+        0b00 => decode_register_based_compressed_store(ctx, raw),
         // Stack-based load and store instructions for C set start with 0b10
-        0b10 => return StoreRead::Refused(refusals::STACK_FORM),
-        _ => return StoreRead::Refused(refusals::NOT_THE_FORM),
+        0b10 => decode_stack_based_compressed_store(ctx, raw),
+        _ => StoreRead::Refused(refusals::NOT_THE_FORM),
     }
-    decode_register_based_compressed_store(ctx, raw)
 }
 
 fn decode_register_based_compressed_store(ctx: Profile, raw: usize) -> StoreRead
@@ -157,6 +202,32 @@ fn decode_register_based_compressed_store(ctx: Profile, raw: usize) -> StoreRead
             is_compressed: true,
         }),
         _ => StoreRead::Refused(refusals::NOT_THE_FORM),
+    }
+}
+
+fn decode_stack_based_compressed_store(ctx: Profile, raw: usize) -> StoreRead
+    requires { ⌜ raw % 2 ^ 2 ≡ 0b10 ⌝ }
+    ensures { λ r. ⌜ r ≡ compressedStoreDef ctx raw ⌝ }
+{
+    let func3 = (raw >> 13) & 0b111;
+    let rs2 = registers::register_at(raw, 2);
+
+    match func3 {
+        C_SWSP => StoreRead::Store(StoreInstr {
+            rs2,
+            rs1: SP,
+            imm: stack_store_word_imm(raw),
+            len: Width::Byte4,
+            is_compressed: true,
+        }),
+        C_SDSP => StoreRead::Store(StoreInstr {
+            rs2,
+            rs1: SP,
+            imm: stack_store_double_imm(raw),
+            len: Width::Byte8,
+            is_compressed: true,
+        }),
+        _ => StoreRead::Refused(refusals::STACK_FORM),
     }
 }
 
@@ -236,6 +307,44 @@ fn compressed_double_imm(raw: usize) -> isize
     let imm_5_3 = ((raw >> 10) & 0b111) << 3;
     let imm_7_6 = ((raw >> 5) & 0b11) << 6;
     (imm_7_6 | imm_5_3) as isize
+}
+
+// The immediate of C.LWSP.
+fn stack_load_word_imm(raw: usize) -> isize
+    ensures { λ r. ⌜ r ≡ signed 2048 (read c-lwsp raw imm) ⌝ }
+{
+    let imm_4_2 = ((raw >> 4) & 0b111) << 2;
+    let imm_5 = ((raw >> 12) & 0b1) << 5;
+    let imm_7_6 = ((raw >> 2) & 0b11) << 6;
+    (imm_7_6 | imm_5 | imm_4_2) as isize
+}
+
+// The immediate of C.LDSP.
+fn stack_load_double_imm(raw: usize) -> isize
+    ensures { λ r. ⌜ r ≡ signed 2048 (read c-ldsp raw imm) ⌝ }
+{
+    let imm_4_3 = ((raw >> 5) & 0b11) << 3;
+    let imm_5 = ((raw >> 12) & 0b1) << 5;
+    let imm_8_6 = ((raw >> 2) & 0b111) << 6;
+    (imm_8_6 | imm_5 | imm_4_3) as isize
+}
+
+// The immediate of C.SWSP.
+fn stack_store_word_imm(raw: usize) -> isize
+    ensures { λ r. ⌜ r ≡ signed 2048 (read c-swsp raw imm) ⌝ }
+{
+    let imm_5_2 = ((raw >> 9) & 0b1111) << 2;
+    let imm_7_6 = ((raw >> 7) & 0b11) << 6;
+    (imm_7_6 | imm_5_2) as isize
+}
+
+// The immediate of C.SDSP.
+fn stack_store_double_imm(raw: usize) -> isize
+    ensures { λ r. ⌜ r ≡ signed 2048 (read c-sdsp raw imm) ⌝ }
+{
+    let imm_5_3 = ((raw >> 10) & 0b111) << 3;
+    let imm_8_6 = ((raw >> 7) & 0b111) << 6;
+    (imm_8_6 | imm_5_3) as isize
 }
 
 // The width that funct3 gives, in loads and in stores.

@@ -1,12 +1,15 @@
 // Loads and stores as words: the way back from the load and store readings of the crate `memory_decoder`. An instruction may hold any
 // numbers; one that has no word is refused with document 01's numbers.
+ghost use mathlib.Core.Bool.{true, false};
 ghost use mathlib.Core.Path.{_≡_};
 ghost use Prim.Native.Nat.{_<_, _≤_};
 ghost use Rattle.utils.specs.Signed.{codeDef};
-ghost use Rattle.forms.specs.Layout.{build, rd};
-ghost use Rattle.memory_decoder.specs.Forms.{load, store, c-word, c-double};
+ghost use Rattle.forms.specs.Layout.{build, rd as the-rd};
+ghost use Rattle.memory_decoder.specs.Forms.{load, store, c-word, c-double, c-lwsp, c-ldsp, c-swsp, c-sdsp};
 ghost use Rattle.memory_decoder.specs.Funct3.{sizeOf, funct3Of};
-ghost use Rattle.memory_encoder.specs.LoadStore.{encodeLoadDef, encodeStoreDef, Compressed, operands, stepped};
+ghost use Rattle.memory_decoder.specs.Load as Load;
+ghost use Rattle.memory_decoder.specs.Store as Store;
+ghost use Rattle.memory_encoder.specs.LoadStore.{encodeLoadDef, encodeStoreDef, Compressed, writtenLoad, writtenStore, operands, stepped, offsetDef};
 use forms::Wrote;
 use memory_decoder::LoadInstr;
 use memory_decoder::StoreInstr;
@@ -28,6 +31,9 @@ pub fn encode_load(ctx: Profile, load: LoadInstr) -> Wrote
     if load.is_compressed {
         if load.is_unsigned {
             return Wrote::Refused(refusals::NO_FORM);
+        }
+        if rs1 == SP {
+            return encode_stack_load(rd, imm, len);
         }
         return encode_compressed(0b010, rd, rs1, imm, len);
     }
@@ -54,6 +60,9 @@ pub fn encode_store(ctx: Profile, store: StoreInstr) -> Wrote
         return Wrote::Refused(refusals::REGISTER);
     }
     if store.is_compressed {
+        if rs1 == SP {
+            return encode_stack_store(rs2, imm, len);
+        }
         return encode_compressed(0b110, rs2, rs1, imm, len);
     }
     let func3 = size_of(len);
@@ -66,10 +75,13 @@ pub fn encode_store(ctx: Profile, store: StoreInstr) -> Wrote
 // Half of the codes of a 12-bit immediate: it is -2048 to 2047.
 const HALF: u32 = 2048;
 
-// A compressed load or store of the register `reg`: `func3` is that of the 32-bit form, and the 64-bit form has the next. Both
-// registers are x8 to x15.
+// The stack pointer: a compressed load or store with this base is always stack-based.
+const SP: usize = 2;
+
+// A register-based compressed load or store of the register `reg`: `func3` is that of the 32-bit form, and the 64-bit form has the
+// next. Both registers are x8 to x15.
 fn encode_compressed(func3: usize, reg: usize, base: usize, imm: isize, len: Width) -> Wrote
-    requires { ⌜ (func3 < 7) × ((reg ≤ 31) × (base ≤ 31)) ⌝ }
+    requires { ⌜ (func3 < 7) × ((reg ≤ 31) × ((base ≤ 31) × (base ≡ 2 → ⊥))) ⌝ }
     ensures { λ r. ⌜ Compressed func3 reg base imm len r ⌝ }
 {
     if reg / 8 != 1 {
@@ -78,21 +90,67 @@ fn encode_compressed(func3: usize, reg: usize, base: usize, imm: isize, len: Wid
     if base / 8 != 1 {
         return Wrote::Refused(refusals::NO_FORM);
     }
+    match offset_of(imm, len, 32) {
+        Offset::Word(code) => Wrote::Word(compressed_word(func3, reg, base, code)),
+        Offset::Double(code) => Wrote::Word(compressed_double(func3 + 1, reg, base, code)),
+        Offset::Refused(n) => Wrote::Refused(n),
+    }
+}
+
+// A stack-based compressed load. There is none of x0.
+fn encode_stack_load(rd: usize, imm: isize, len: Width) -> Wrote
+    requires { ⌜ rd ≤ 31 ⌝ }
+    ensures { λ r. ⌜ r ≡ writtenLoad (Load.mk rd 2 imm len true false) ⌝ }
+{
+    if rd == 0 {
+        return Wrote::Refused(refusals::NO_FORM);
+    }
+    match offset_of(imm, len, 64) {
+        Offset::Word(code) => Wrote::Word(stack_load_word(rd, code)),
+        Offset::Double(code) => Wrote::Word(stack_load_double(rd, code)),
+        Offset::Refused(n) => Wrote::Refused(n),
+    }
+}
+
+// A stack-based compressed store.
+fn encode_stack_store(rs2: usize, imm: isize, len: Width) -> Wrote
+    requires { ⌜ rs2 ≤ 31 ⌝ }
+    ensures { λ r. ⌜ r ≡ writtenStore (Store.mk rs2 2 imm len true) ⌝ }
+{
+    match offset_of(imm, len, 64) {
+        Offset::Word(code) => Wrote::Word(stack_store_word(rs2, code)),
+        Offset::Double(code) => Wrote::Word(stack_store_double(rs2, code)),
+        Offset::Refused(n) => Wrote::Refused(n),
+    }
+}
+
+// The code of a compressed form's immediate, for a form of 32 bits or of 64, or the refusal's number.
+enum Offset {
+    Word(usize),
+    Double(usize),
+    Refused(u8),
+}
+
+// A compressed form holds the multiples of its width below `count` times the width. There is none of 8 or 16 bits.
+fn offset_of(imm: isize, len: Width, count: usize) -> Offset
+    requires { ⌜ count ≤ 64 ⌝ }
+    ensures { λ r. ⌜ r ≡ offsetDef count len (codeDef 2048 imm) ⌝ }
+{
     match len {
-        Width::Byte4 => match offset(imm, 4, 128) {
-            Code::Is(code) => Wrote::Word(compressed_word(func3, reg, base, code)),
-            Code::Out => Wrote::Refused(refusals::IMMEDIATE),
+        Width::Byte4 => match multiple(imm, 4, 4 * count) {
+            Code::Is(code) => Offset::Word(code),
+            Code::Out => Offset::Refused(refusals::IMMEDIATE),
         },
-        Width::Byte8 => match offset(imm, 8, 256) {
-            Code::Is(code) => Wrote::Word(compressed_double(func3 + 1, reg, base, code)),
-            Code::Out => Wrote::Refused(refusals::IMMEDIATE),
+        Width::Byte8 => match multiple(imm, 8, 8 * count) {
+            Code::Is(code) => Offset::Double(code),
+            Code::Out => Offset::Refused(refusals::IMMEDIATE),
         },
-        _ => Wrote::Refused(refusals::NO_FORM),
+        _ => Offset::Refused(refusals::NO_FORM),
     }
 }
 
 // The code of an immediate that is a multiple of `step` below `limit`.
-fn offset(imm: isize, step: usize, limit: usize) -> Code
+fn multiple(imm: isize, step: usize, limit: usize) -> Code
     requires { ⌜ 0 < step ⌝ }
     ensures { λ r. ⌜ r ≡ stepped step limit (codeDef 2048 imm) ⌝ }
 {
@@ -111,7 +169,7 @@ fn offset(imm: isize, step: usize, limit: usize) -> Code
 // C.LW and C.SW, by `func3`.
 fn compressed_word(func3: usize, reg: usize, base: usize, imm: usize) -> u64
     requires { ⌜ func3 < 8 ⌝ }
-    ensures { λ r. ⌜ r ≡ build (c-word func3 rd) (operands reg base func3 imm) ⌝ }
+    ensures { λ r. ⌜ r ≡ build (c-word func3 the-rd) (operands reg base func3 imm) ⌝ }
 {
     let imm_2 = (imm >> 2) & 0b1;
     let imm_5_3 = (imm >> 3) & 0b111;
@@ -127,7 +185,7 @@ fn compressed_word(func3: usize, reg: usize, base: usize, imm: usize) -> u64
 // C.LD and C.SD, by `func3`.
 fn compressed_double(func3: usize, reg: usize, base: usize, imm: usize) -> u64
     requires { ⌜ func3 < 8 ⌝ }
-    ensures { λ r. ⌜ r ≡ build (c-double func3 rd) (operands reg base func3 imm) ⌝ }
+    ensures { λ r. ⌜ r ≡ build (c-double func3 the-rd) (operands reg base func3 imm) ⌝ }
 {
     let imm_5_3 = (imm >> 3) & 0b111;
     let imm_7_6 = (imm >> 6) & 0b11;
@@ -136,6 +194,54 @@ fn compressed_double(func3: usize, reg: usize, base: usize, imm: usize) -> u64
         | ((base & 0b111) << 7)
         | (imm_7_6 << 5)
         | ((reg & 0b111) << 2)) as u64
+}
+
+// C.LWSP.
+fn stack_load_word(rd: usize, imm: usize) -> u64
+    ensures { λ r. ⌜ r ≡ build c-lwsp (operands rd 2 0b010 imm) ⌝ }
+{
+    let imm_4_2 = (imm >> 2) & 0b111;
+    let imm_5 = (imm >> 5) & 0b1;
+    let imm_7_6 = (imm >> 6) & 0b11;
+    ((0b010 << 13)
+        | (imm_5 << 12)
+        | ((rd & 0b11111) << 7)
+        | (imm_4_2 << 4)
+        | (imm_7_6 << 2)
+        | 0b10) as u64
+}
+
+// C.LDSP.
+fn stack_load_double(rd: usize, imm: usize) -> u64
+    ensures { λ r. ⌜ r ≡ build c-ldsp (operands rd 2 0b011 imm) ⌝ }
+{
+    let imm_4_3 = (imm >> 3) & 0b11;
+    let imm_5 = (imm >> 5) & 0b1;
+    let imm_8_6 = (imm >> 6) & 0b111;
+    ((0b011 << 13)
+        | (imm_5 << 12)
+        | ((rd & 0b11111) << 7)
+        | (imm_4_3 << 5)
+        | (imm_8_6 << 2)
+        | 0b10) as u64
+}
+
+// C.SWSP.
+fn stack_store_word(rs2: usize, imm: usize) -> u64
+    ensures { λ r. ⌜ r ≡ build c-swsp (operands rs2 2 0b10 imm) ⌝ }
+{
+    let imm_5_2 = (imm >> 2) & 0b1111;
+    let imm_7_6 = (imm >> 6) & 0b11;
+    ((0b110 << 13) | (imm_5_2 << 9) | (imm_7_6 << 7) | ((rs2 & 0b11111) << 2) | 0b10) as u64
+}
+
+// C.SDSP.
+fn stack_store_double(rs2: usize, imm: usize) -> u64
+    ensures { λ r. ⌜ r ≡ build c-sdsp (operands rs2 2 0b11 imm) ⌝ }
+{
+    let imm_5_3 = (imm >> 3) & 0b111;
+    let imm_8_6 = (imm >> 6) & 0b111;
+    ((0b111 << 13) | (imm_5_3 << 10) | (imm_8_6 << 7) | ((rs2 & 0b11111) << 2) | 0b10) as u64
 }
 
 // A 32-bit load.

@@ -3,7 +3,7 @@ use Rattle.utils.proofs.Prelude.{refl, [], _∷_, arith, needs}
 use Rattle.forms.proofs.Facts.{is}
 use Rattle.memory_decoder.specs.Store.{storeDef}
 use Rattle.memory_decoder.proofs.Lengths.{by-length}
-use Rattle.memory_decoder.proofs.Reading.{storing, reads, short-reads}
+use Rattle.memory_decoder.proofs.Reading.{storing, reads}
 use Rattle.memory_decoder.proofs.decode_compressed_store.Statement.{statement}
 use Rattle.memory_decoder.proofs.decode_compressed_store.Tie as tie
 
@@ -12,9 +12,7 @@ unfolding storeDef
 decode-compressed-store-spec =
     tie.close
     (tie.spec
-    (λ c κs. search needs)
-    (λ c. short-reads storing (c .before .before .args .raw) (is 0 2 0b10 ∷ []) (omega arith, tt) refl refl)
+    (λ c κs. search needs) (λ c κs. search needs) (λ c κs. search needs) (λ c. search needs) (λ c. search needs)
     (λ c.
     let w = c .before .before .args .raw in
-    by-length w _ _ (λ long. refl) (λ short. reads storing w (is 0 2 0b01 ∷ []) (omega arith, tt) refl))
-    (λ c κs. search needs) (λ c. search needs))
+    by-length w _ _ (λ long. refl) (λ short. reads storing w (is 0 2 0b01 ∷ []) (omega arith, tt) refl)))

@@ -1,17 +1,17 @@
 -- `memory_encoder::encode_store` meets its contract: the tests choose the form or the refusal, and the immediate is tested by the form. Assumes nothing.
-use Rattle.utils.proofs.Prelude.{_≡_, refl, sym, ap, _∙_, [], _∷_, _≤_, arith, w64, SFits, toZ, ofZ, toZ-ofZ, needs, not-true}
+use Rattle.utils.proofs.Prelude.{_≡_, refl, sym, ap, _∙_, true, [], _∷_, ℕ, _≤_, arith, w64, SFits, toZ, ofZ, toZ-ofZ, needs, not-true}
 use borrow.Author.Tests.{not-false}
 use Rattle.utils.specs.declared.Code.{Code}
 use Rattle.registers.proofs.Numbers.{valid}
 use Rattle.forms.specs.declared.Wrote.{Wrote, the-variants.Word}
 use Rattle.forms.specs.Layout.{build}
-use Rattle.forms.specs.Meaning.{bitOf, writeOf}
+use Rattle.forms.specs.Meaning.{bitOf}
 use Rattle.forms.proofs.Facts.{under, over}
 use Rattle.forms.proofs.Choices.{exactly, such}
 use Rattle.memory_decoder.specs.declared.StoreInstr.{StoreInstr}
-use Rattle.memory_decoder.specs.Forms.{stores, store}
-use Rattle.memory_decoder.specs.Store.{meaning, mk}
-use Rattle.memory_encoder.specs.LoadStore.{encodeStoreDef, operands}
+use Rattle.memory_decoder.specs.Forms.{store}
+use Rattle.memory_decoder.specs.Store.{mk}
+use Rattle.memory_encoder.specs.LoadStore.{encodeStoreDef, writtenStore, operands}
 use Rattle.memory_encoder.proofs.Funct3.{size-lt}
 use Rattle.memory_encoder.proofs.Writing.{store-layout, anything, no-registers, putCode, found, all-codes}
 use Rattle.memory_encoder.proofs.encode_store.Statement.{statement}
@@ -28,9 +28,15 @@ module _ (c : tie.Else1) where
   fits : SFits w64 (it .imm)
   fits = record { sfits = c .before .before .struct-told .given .1 .1 .0 .1 }
 
+-- a compressed one: r is what a call answered of its parts, with the base b
+same : (c : tie.Then2) {b : ℕ} {r : Wrote} → (let i = it (c .before) in b ≡ i .rs1 .0 → r ≡ writtenStore (mk (i .rs2 .0) b (toZ w64 (ofZ w64 (i .imm))) (i .len) true) → r ≡ writtenStore i)
+same c e p =
+    let i = it (c .before) in
+    p ∙ (λ j. writtenStore (mk (i .rs2 .0) (e j) (toZ-ofZ w64 (i .imm) (fits (c .before)) j) (i .len) (sym (c .if2 .taken) j)))
+
 -- one of 32 bits: c is what `code_of` found, k the arm, r its answer
 by-code : (c : tie.After-code-of) {k : Code} {r : Wrote} → c .code-of .result ≡ k
-    → (let i = it (c .before .before .before) in r ≡ putCode (λ n. build store (operands (i .rs2 .0) (i .rs1 .0) (c .before .size-of .result) n)) k → r ≡ writeOf stores meaning i)
+    → (let i = it (c .before .before .before) in r ≡ putCode (λ n. build store (operands (i .rs2 .0) (i .rs1 .0) (c .before .size-of .result) n)) k → r ≡ writtenStore i)
 by-code c q p =
     let long = c .before .before in
     let i = it (long .before) in
@@ -51,12 +57,10 @@ encode-store-spec =
     no-registers (i .rs2 .0) (i .rs1 .0) (sym (c .before .are-valid .ensures) ∙ not-true _ (c .if1 .taken))
     (λ h. store-layout (such (over 5 ∷ [])) anything anything anything i (omega arith, tt) tt tt tt refl)
     (λ h. store-layout anything (such (over 5 ∷ [])) anything anything i tt (omega arith, tt) tt tt refl))
-    (λ c κs. (omega arith, low (c .before)))
-    (λ c.
-    let short = c .before in
-    let i = it (short .before) in
-    c .encode-compressed .ensures .as-store refl
-    ∙ (λ j. writeOf stores meaning (mk (i .rs2 .0) (i .rs1 .0) (toZ-ofZ w64 (i .imm) (fits (short .before)) j) (i .len) (sym (short .if2 .taken) j))))
+    (λ c κs. low (c .before .before) .0)
+    (λ c. same (c .before .before) (sym (c .before .if3 .taken)) (c .encode-stack-store .ensures))
+    (λ c κs. let h = low (c .before .before) in (omega arith, (h .0, (h .1, c .if3 .left))))
+    (λ c. same (c .before .before) refl (c .encode-compressed .ensures .as-store refl))
     (λ c κs. search needs) (λ c κs. search needs) (λ c. search needs) (λ c κs. search needs) (λ c. search needs)
     (λ c. by-code (c .before .before .before .before) (c .before .before .code .given .1) (ap Word (c .store-word .ensures)))
     (λ c. by-code (c .before .before) (c .enum-told .given .1) refl))
