@@ -69,7 +69,7 @@ encode-load-spec =
     let i = it (short .before) in
     numbered (i .rd .0) (i .rs1 .0) (are-valid (short .before))
     ∙ sym (load-layout anything anything (such (is 2 1 0b1 ∷ [])) (exactly 1) i tt tt (omega (arith, size-lt (i .len), ap bitOf (c .if3 .taken)), tt) (ap bitOf (short .if2 .taken)) refl))
-    (λ c κs. low (c .before .before .before) .0)
+    (λ c κs. let h = low (c .before .before .before) in omega arith)
     (λ c. same (c .before .before) (sym (c .before .if4 .taken)) (c .encode-stack-load .ensures))
     (λ c κs. let h = low (c .before .before .before) in (omega arith, (h .0, (h .1, c .if4 .left))))
     (λ c. same (c .before .before) refl (c .encode-compressed .ensures .as-load refl))

@@ -57,7 +57,7 @@ encode-store-spec =
     no-registers (i .rs2 .0) (i .rs1 .0) (sym (c .before .are-valid .ensures) ∙ not-true _ (c .if1 .taken))
     (λ h. store-layout (such (over 5 ∷ [])) anything anything anything i (omega arith, tt) tt tt tt refl)
     (λ h. store-layout anything (such (over 5 ∷ [])) anything anything i tt (omega arith, tt) tt tt refl))
-    (λ c κs. low (c .before .before) .0)
+    (λ c κs. let h = low (c .before .before) in omega arith)
     (λ c. same (c .before .before) (sym (c .before .if3 .taken)) (c .encode-stack-store .ensures))
     (λ c κs. let h = low (c .before .before) in (omega arith, (h .0, (h .1, c .if3 .left))))
     (λ c. same (c .before .before) refl (c .encode-compressed .ensures .as-store refl))
