@@ -55,7 +55,7 @@ extern "C" {
 
 /* The number of this header. It is raised when an answer, a length or a function here changes. An archive fits where
  * matnosoru_version() answers the same. */
-#define MATNOSORU_VERSION 1
+#define MATNOSORU_VERSION 2
 
 /* The most bytes that a record has. */
 #define MATNOSORU_LONGEST_RECORD 11

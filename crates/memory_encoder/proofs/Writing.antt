@@ -1,13 +1,11 @@
 -- What is known of a load or a store settles its form, and the word of its immediate's code: for any forms that the tables may have. Assumes nothing.
-use Rattle.utils.proofs.Prelude.{_≡_, refl, sym, ap, _∙_, Bool, true, false, _&&_, _||_, not, cond, List, [], _∷_, ℕ, _*_, _%_, _<_, arith, eqb, ltb, getD}
+use Rattle.utils.proofs.Prelude.{_≡_, refl, sym, ap, _∙_, Bool, true, false, _&&_, _||_, not, cond, List, [], _∷_, ℕ, _*_, _%_, _<_, eqb, ltb, getD}
 use Rattle.utils.proofs.Prelude.{ℤ, mag, w64, SFits, toZ, ofZ, toZ-ofZ, lt-ltb, ltb-true}
-use denote.Enum.Declared.{tagOf}
 use Rattle.utils.specs.Signed.{twos, codeDef}
 use Rattle.utils.specs.declared.Code.{Code, the-variants.Is, the-variants.Out}
 use Rattle.utils.specs.declared.Width.{Width, the-variants.Byte, the-variants.Byte2, the-variants.Byte4, the-variants.Byte8}
 use Rattle.utils.proofs.Signed.{twos-lt}
 use Rattle.utils.proofs.Tests.{on}
-use Rattle.utils.proofs.Width.{the-type}
 use Rattle.registers.specs.Numbers.{areValid}
 use Rattle.registers.proofs.Numbers.{not-valid}
 use Rattle.forms.specs.declared.Wrote.{Wrote, the-variants.Word, the-variants.Refused}
@@ -113,7 +111,3 @@ module _ (c : ℕ) (L M : Layout) (of-word : (n : ℕ) → holds L imm n ≡ (eq
   pub found-offset : SFits w64 z → (len : Width) {f k : Offset} {r : Wrote} → f ≡ offsetDef c len (codeDef 2048 (toZ w64 (ofZ w64 z))) → f ≡ k → r ≡ putOffset word double k → r ≡ byWidth L M word double z len
   found-offset fits len e q p =
       p ∙ ap (putOffset word double) (sym q ∙ e ∙ ap (λ (y : ℤ). offsetDef c len (codeDef 2048 y)) (toZ-ofZ w64 z fits)) ∙ in-width len
-
--- ---- a width's place in a match
-pub size-tag : (len : Width) → sizeOf len ≡ tagOf the-type len
-size-tag = elim [ Byte ↦ refl | Byte2 ↦ refl | Byte4 ↦ refl | Byte8 ↦ refl ]

@@ -1,5 +1,5 @@
 -- `memory_encoder::encode_load` meets its contract: the tests choose the form or the refusal, and the immediate is tested by the form. Assumes nothing.
-use Rattle.utils.proofs.Prelude.{_≡_, refl, sym, ap, _∙_, true, false, [], _∷_, ℕ, _≤_, mod-eq-of-lt, arith, w64, SFits, toZ, ofZ, toZ-ofZ, needs, not-true}
+use Rattle.utils.proofs.Prelude.{_≡_, refl, sym, ap, _∙_, true, false, [], _∷_, ℕ, _≤_, arith, w64, SFits, toZ, ofZ, toZ-ofZ, needs, not-true}
 use borrow.Author.Tests.{not-false}
 use Rattle.utils.specs.declared.Code.{Code}
 use Rattle.registers.specs.Numbers.{areValid}
