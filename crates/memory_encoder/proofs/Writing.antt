@@ -1,11 +1,13 @@
 -- What is known of a load or a store settles its form, and the word of its immediate's code: for any forms that the tables may have. Assumes nothing.
-use Rattle.utils.proofs.Prelude.{_≡_, refl, sym, ap, _∙_, Bool, true, false, _&&_, _||_, not, cond, List, [], _∷_, ℕ, _*_, _%_, _<_, eqb, ltb, getD}
+use Rattle.utils.proofs.Prelude.{_≡_, refl, sym, ap, _∙_, Bool, true, false, _&&_, _||_, not, cond, List, [], _∷_, ℕ, _%_, _<_, arith, eqb, ltb, getD}
 use Rattle.utils.proofs.Prelude.{ℤ, mag, w64, SFits, toZ, ofZ, toZ-ofZ, lt-ltb, ltb-true}
+use denote.Enum.Declared.{tagOf}
 use Rattle.utils.specs.Signed.{twos, codeDef}
 use Rattle.utils.specs.declared.Code.{Code, the-variants.Is, the-variants.Out}
 use Rattle.utils.specs.declared.Width.{Width, the-variants.Byte, the-variants.Byte2, the-variants.Byte4, the-variants.Byte8}
 use Rattle.utils.proofs.Signed.{twos-lt}
 use Rattle.utils.proofs.Tests.{on}
+use Rattle.utils.proofs.Width.{the-type}
 use Rattle.registers.specs.Numbers.{areValid}
 use Rattle.registers.proofs.Numbers.{not-valid}
 use Rattle.forms.specs.declared.Wrote.{Wrote, the-variants.Word, the-variants.Refused}
@@ -21,8 +23,7 @@ use Rattle.memory_decoder.specs.Forms.{loads, stores}
 use Rattle.memory_decoder.specs.Funct3.{sizeOf, funct3Of}
 use Rattle.memory_decoder.specs.Load as Load
 use Rattle.memory_decoder.specs.Store as Store
-use Rattle.memory_encoder.specs.LoadStore.{stepped, sized, offsetDef}
-use Rattle.memory_encoder.specs.declared.Offset.{Offset, the-variants.Word as OfWord, the-variants.Double as OfDouble, the-variants.Refused as NoOffset}
+use Rattle.memory_encoder.specs.LoadStore.{stepped}
 
 -- ---- what is known of the operands settles the form: of the register, which is the operand y, the base, funct and `short`
 abbrev told : Operand → Told → Told → Told → Told → Operand → Told
@@ -76,38 +77,15 @@ found L word z fits {c} {k} e q p = p ∙ same k (sym is ∙ q) ∙ ap (λ (v : 
 pub all-codes : (L : Layout) → ((n : ℕ) → holds L imm n ≡ ltb n 4096) → (z : ℤ) → codeDef 2048 z ≡ within L (codeDef 2048 z)
 all-codes L h z = on (λ (k : Code). k ≡ within L k) (ltb (mag z) 2048) (λ e. simp (h, lt-ltb _ _ (twos-lt 2048 z (ltb-true _ _ e)))) (λ _. refl)
 
--- ---- compressed forms, one of 32 bits and one of 64
--- the answer of the code's last match; word and double are what the arms put together
-abbrev pub putOffset : (ℕ → ℕ) → (ℕ → ℕ) → Offset → Wrote
-putOffset word double (OfWord n) = Word (word n)
-putOffset word double (OfDouble n) = Word (double n)
-putOffset word double (NoOffset n) = Refused n
+-- and of one whose immediate holds the multiples of s below l `offset` finds the code
+pub found-step : (L : Layout) (s l : ℕ) → ((n : ℕ) → holds L imm n ≡ (eqb (n % s) 0 && ltb n l)) → (word : ℕ → ℕ) (z : ℤ) → SFits w64 z → {c k : Code} {r : Wrote}
+    → c ≡ stepped s l (codeDef 2048 (toZ w64 (ofZ w64 z))) → c ≡ k → r ≡ putCode word k → r ≡ put (within L (codeDef 2048 z)) (word (twos 2048 z))
+found-step L s l h word z fits e = found L word z fits (e ∙ codes (codeDef 2048 (toZ w64 (ofZ w64 z))))
+  where
+    codes : (k : Code) → stepped s l k ≡ within L k
+    codes (Is n) = simp h
+    codes Out = refl
 
--- what is written for each width by the forms L, of 32 bits, and M, of 64
-abbrev pub byWidth : Layout → Layout → (ℕ → ℕ) → (ℕ → ℕ) → ℤ → Width → Wrote
-byWidth L M word double z Byte = Refused 9
-byWidth L M word double z Byte2 = Refused 9
-byWidth L M word double z Byte4 = put (within L (codeDef 2048 z)) (word (twos 2048 z))
-byWidth L M word double z Byte8 = put (within M (codeDef 2048 z)) (double (twos 2048 z))
-
--- each form holds the multiples of its width below c times the width
-module _ (c : ℕ) (L M : Layout) (of-word : (n : ℕ) → holds L imm n ≡ (eqb (n % 4) 0 && ltb n (4 * c))) (of-double : (n : ℕ) → holds M imm n ≡ (eqb (n % 8) 0 && ltb n (8 * c)))
-    (word double : ℕ → ℕ) (z : ℤ) where
-  -- of a form W of s bytes: put together by f
-  in-form : (form : ℕ → Offset) (W : Layout) (s : ℕ) (f : ℕ → ℕ) → ((n : ℕ) → holds W imm n ≡ (eqb (n % s) 0 && ltb n (s * c))) → ((n : ℕ) → putOffset word double (form n) ≡ Word (f n))
-      → (k : Code) → codeDef 2048 z ≡ k → putOffset word double (sized form (stepped s (s * c) k)) ≡ put (within W k) (f (twos 2048 z))
-  in-form form W s f h g (Is n) e =
-      rw (h n)
-      (on (λ (k : Code). putOffset word double (sized form k) ≡ put k (f (twos 2048 z))) (eqb (n % s) 0 && ltb n (s * c)) (λ _. g n ∙ ap (λ (m : ℕ). Word (f m)) (code-twos 2048 z n e)) (λ _. refl))
-  in-form form W s f h g Out e = refl
-
-  in-width : (len : Width) → putOffset word double (offsetDef c len (codeDef 2048 z)) ≡ byWidth L M word double z len
-  in-width Byte = refl
-  in-width Byte2 = refl
-  in-width Byte4 = in-form OfWord L 4 word of-word (λ n. refl) (codeDef 2048 z) refl
-  in-width Byte8 = in-form OfDouble M 8 double of-double (λ n. refl) (codeDef 2048 z) refl
-
-  -- f is what `offset_of` found, of z as the machine reads it back; k is the arm, and r the arm's answer
-  pub found-offset : SFits w64 z → (len : Width) {f k : Offset} {r : Wrote} → f ≡ offsetDef c len (codeDef 2048 (toZ w64 (ofZ w64 z))) → f ≡ k → r ≡ putOffset word double k → r ≡ byWidth L M word double z len
-  found-offset fits len e q p =
-      p ∙ ap (putOffset word double) (sym q ∙ e ∙ ap (λ (y : ℤ). offsetDef c len (codeDef 2048 y)) (toZ-ofZ w64 z fits)) ∙ in-width len
+-- ---- a width's place in a match
+pub size-tag : (len : Width) → sizeOf len ≡ tagOf the-type len
+size-tag = elim [ Byte ↦ refl | Byte2 ↦ refl | Byte4 ↦ refl | Byte8 ↦ refl ]

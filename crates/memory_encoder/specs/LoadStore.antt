@@ -1,6 +1,6 @@
 -- What a load and a store are written as, by the tables that they are read by (`memory_decoder`): document 01's refusals 6, 9 and 10. After that, what
 -- the encoder's own functions answer.
-use Prim.Native.Nat.{ℕ, _*_, _%_}
+use Prim.Native.Nat.{ℕ, _%_}
 use mathlib.Core.Path.{_≡_}
 use mathlib.Core.Bool.{true, false, _&&_, cond}
 use lib.Dec.{eqb, ltb}
@@ -8,7 +8,6 @@ use lib.IntN.{ℤ}
 use Rattle.utils.specs.declared.Code.{Code}
 use Rattle.utils.specs.declared.Code.the-variants.{Is, Out}
 use Rattle.utils.specs.declared.Width.{Width}
-use Rattle.utils.specs.declared.Width.the-variants.{Byte, Byte2, Byte4, Byte8}
 use Rattle.profiles.specs.declared.Profile.{Profile}
 use Rattle.forms.specs.declared.Wrote.{Wrote}
 use Rattle.forms.specs.Layout.{Operand, imm, rd, rs1, rs2, funct, csr, short}
@@ -18,21 +17,13 @@ use Rattle.memory_decoder.specs.declared.StoreInstr.{StoreInstr}
 use Rattle.memory_decoder.specs.Forms.{loads, stores}
 use Rattle.memory_decoder.specs.Load as Load
 use Rattle.memory_decoder.specs.Store as Store
-use Rattle.memory_encoder.specs.declared.Offset.{Offset}
-use Rattle.memory_encoder.specs.declared.Offset.the-variants.{Word, Double, Refused}
-
-abbrev pub writtenLoad : LoadInstr → Wrote
-writtenLoad i = writeOf loads Load.meaning i
-
-abbrev pub writtenStore : StoreInstr → Wrote
-writtenStore i = writeOf stores Store.meaning i
 
 -- writing asks nothing of the profile
 unfoldable pub encodeLoadDef : Profile → LoadInstr → Wrote
-encodeLoadDef p i = writtenLoad i
+encodeLoadDef p i = writeOf loads Load.meaning i
 
 unfoldable pub encodeStoreDef : Profile → StoreInstr → Wrote
-encodeStoreDef p i = writtenStore i
+encodeStoreDef p i = writeOf stores Store.meaning i
 
 -- ---- what the encoder's own functions answer
 -- operands by their numbers: x is a load's rd or a store's rs2
@@ -47,21 +38,10 @@ operands x b f n short = 0
 
 -- what a compressed load or store of the register x is written as, by the funct3 f of its 32-bit form
 pub record Compressed (f x b : ℕ) (z : ℤ) (len : Width) (r : Wrote) : Type 0 where
-  pub as-load : f ≡ 0b010 → r ≡ writtenLoad (Load.mk x b z len true false)
-  pub as-store : f ≡ 0b110 → r ≡ writtenStore (Store.mk x b z len true)
+  pub as-load : f ≡ 0b010 → r ≡ writeOf loads Load.meaning (Load.mk x b z len true false)
+  pub as-store : f ≡ 0b110 → r ≡ writeOf stores Store.meaning (Store.mk x b z len true)
 
 -- a code that is a multiple of s below l
 abbrev pub stepped : ℕ → ℕ → Code → Code
 stepped s l (Is n) = cond (eqb (n % s) 0 && ltb n l) (Is n) Out
 stepped s l Out = Out
-
--- what is found of the code of a compressed form's immediate: a multiple of the width below c times the width
-abbrev pub sized : (ℕ → Offset) → Code → Offset
-sized form (Is n) = form n
-sized form Out = Refused 10
-
-abbrev pub offsetDef : ℕ → Width → Code → Offset
-offsetDef c Byte k = Refused 9
-offsetDef c Byte2 k = Refused 9
-offsetDef c Byte4 k = sized Word (stepped 4 (4 * c) k)
-offsetDef c Byte8 k = sized Double (stepped 8 (8 * c) k)

@@ -5,11 +5,12 @@ ghost use mathlib.Core.Path.{_≡_};
 ghost use Prim.Native.Nat.{_<_, _≤_};
 ghost use Rattle.utils.specs.Signed.{codeDef};
 ghost use Rattle.forms.specs.Layout.{build, rd as the-rd};
-ghost use Rattle.memory_decoder.specs.Forms.{load, store, c-word, c-double, c-lwsp, c-ldsp, c-swsp, c-sdsp};
+ghost use Rattle.forms.specs.Meaning.{writeOf};
+ghost use Rattle.memory_decoder.specs.Forms.{load, store, c-word, c-double, loads, stores, c-lwsp, c-ldsp, c-swsp, c-sdsp};
 ghost use Rattle.memory_decoder.specs.Funct3.{sizeOf, funct3Of};
 ghost use Rattle.memory_decoder.specs.Load as Load;
 ghost use Rattle.memory_decoder.specs.Store as Store;
-ghost use Rattle.memory_encoder.specs.LoadStore.{encodeLoadDef, encodeStoreDef, Compressed, writtenLoad, writtenStore, operands, stepped, offsetDef};
+ghost use Rattle.memory_encoder.specs.LoadStore.{encodeLoadDef, encodeStoreDef, Compressed, operands, stepped};
 use forms::Wrote;
 use memory_decoder::LoadInstr;
 use memory_decoder::StoreInstr;
@@ -90,67 +91,60 @@ fn encode_compressed(func3: usize, reg: usize, base: usize, imm: isize, len: Wid
     if base / 8 != 1 {
         return Wrote::Refused(refusals::NO_FORM);
     }
-    match offset_of(imm, len, 32) {
-        Offset::Word(code) => Wrote::Word(compressed_word(func3, reg, base, code)),
-        Offset::Double(code) => Wrote::Word(compressed_double(func3 + 1, reg, base, code)),
-        Offset::Refused(n) => Wrote::Refused(n),
+    match len {
+        Width::Byte4 => match offset(imm, 4, 128) {
+            Code::Is(code) => Wrote::Word(compressed_word(func3, reg, base, code)),
+            Code::Out => Wrote::Refused(refusals::IMMEDIATE),
+        },
+        Width::Byte8 => match offset(imm, 8, 256) {
+            Code::Is(code) => Wrote::Word(compressed_double(func3 + 1, reg, base, code)),
+            Code::Out => Wrote::Refused(refusals::IMMEDIATE),
+        },
+        _ => Wrote::Refused(refusals::NO_FORM),
     }
 }
 
 // A stack-based compressed load. There is none of x0.
 fn encode_stack_load(rd: usize, imm: isize, len: Width) -> Wrote
     requires { ⌜ rd ≤ 31 ⌝ }
-    ensures { λ r. ⌜ r ≡ writtenLoad (Load.mk rd 2 imm len true false) ⌝ }
+    ensures { λ r. ⌜ r ≡ writeOf loads Load.meaning (Load.mk rd 2 imm len true false) ⌝ }
 {
     if rd == 0 {
         return Wrote::Refused(refusals::NO_FORM);
     }
-    match offset_of(imm, len, 64) {
-        Offset::Word(code) => Wrote::Word(stack_load_word(rd, code)),
-        Offset::Double(code) => Wrote::Word(stack_load_double(rd, code)),
-        Offset::Refused(n) => Wrote::Refused(n),
+    match len {
+        Width::Byte4 => match offset(imm, 4, 256) {
+            Code::Is(code) => Wrote::Word(stack_load_word(rd, code)),
+            Code::Out => Wrote::Refused(refusals::IMMEDIATE),
+        },
+        Width::Byte8 => match offset(imm, 8, 512) {
+            Code::Is(code) => Wrote::Word(stack_load_double(rd, code)),
+            Code::Out => Wrote::Refused(refusals::IMMEDIATE),
+        },
+        _ => Wrote::Refused(refusals::NO_FORM),
     }
 }
 
 // A stack-based compressed store.
 fn encode_stack_store(rs2: usize, imm: isize, len: Width) -> Wrote
     requires { ⌜ rs2 ≤ 31 ⌝ }
-    ensures { λ r. ⌜ r ≡ writtenStore (Store.mk rs2 2 imm len true) ⌝ }
-{
-    match offset_of(imm, len, 64) {
-        Offset::Word(code) => Wrote::Word(stack_store_word(rs2, code)),
-        Offset::Double(code) => Wrote::Word(stack_store_double(rs2, code)),
-        Offset::Refused(n) => Wrote::Refused(n),
-    }
-}
-
-// The code of a compressed form's immediate, for a form of 32 bits or of 64, or the refusal's number.
-enum Offset {
-    Word(usize),
-    Double(usize),
-    Refused(u8),
-}
-
-// A compressed form holds the multiples of its width below `count` times the width. There is none of 8 or 16 bits.
-fn offset_of(imm: isize, len: Width, count: usize) -> Offset
-    requires { ⌜ count ≤ 64 ⌝ }
-    ensures { λ r. ⌜ r ≡ offsetDef count len (codeDef 2048 imm) ⌝ }
+    ensures { λ r. ⌜ r ≡ writeOf stores Store.meaning (Store.mk rs2 2 imm len true) ⌝ }
 {
     match len {
-        Width::Byte4 => match multiple(imm, 4, 4 * count) {
-            Code::Is(code) => Offset::Word(code),
-            Code::Out => Offset::Refused(refusals::IMMEDIATE),
+        Width::Byte4 => match offset(imm, 4, 256) {
+            Code::Is(code) => Wrote::Word(stack_store_word(rs2, code)),
+            Code::Out => Wrote::Refused(refusals::IMMEDIATE),
         },
-        Width::Byte8 => match multiple(imm, 8, 8 * count) {
-            Code::Is(code) => Offset::Double(code),
-            Code::Out => Offset::Refused(refusals::IMMEDIATE),
+        Width::Byte8 => match offset(imm, 8, 512) {
+            Code::Is(code) => Wrote::Word(stack_store_double(rs2, code)),
+            Code::Out => Wrote::Refused(refusals::IMMEDIATE),
         },
-        _ => Offset::Refused(refusals::NO_FORM),
+        _ => Wrote::Refused(refusals::NO_FORM),
     }
 }
 
 // The code of an immediate that is a multiple of `step` below `limit`.
-fn multiple(imm: isize, step: usize, limit: usize) -> Code
+fn offset(imm: isize, step: usize, limit: usize) -> Code
     requires { ⌜ 0 < step ⌝ }
     ensures { λ r. ⌜ r ≡ stepped step limit (codeDef 2048 imm) ⌝ }
 {

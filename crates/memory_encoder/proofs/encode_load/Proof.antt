@@ -6,13 +6,13 @@ use Rattle.registers.specs.Numbers.{areValid}
 use Rattle.registers.proofs.Numbers.{valid}
 use Rattle.forms.specs.declared.Wrote.{Wrote, the-variants.Word}
 use Rattle.forms.specs.Layout.{build}
-use Rattle.forms.specs.Meaning.{bitOf}
+use Rattle.forms.specs.Meaning.{bitOf, writeOf}
 use Rattle.forms.proofs.Facts.{is, isnt, under, over}
 use Rattle.forms.proofs.Choices.{exactly, such}
 use Rattle.memory_decoder.specs.declared.LoadInstr.{LoadInstr}
-use Rattle.memory_decoder.specs.Forms.{load}
-use Rattle.memory_decoder.specs.Load.{mk}
-use Rattle.memory_encoder.specs.LoadStore.{encodeLoadDef, writtenLoad, operands}
+use Rattle.memory_decoder.specs.Forms.{loads, load}
+use Rattle.memory_decoder.specs.Load.{meaning, mk}
+use Rattle.memory_encoder.specs.LoadStore.{encodeLoadDef, operands}
 use Rattle.memory_encoder.proofs.Funct3.{size-lt, funct3-lt}
 use Rattle.memory_encoder.proofs.Writing.{load-layout, anything, numbered, no-registers, putCode, found, all-codes}
 use Rattle.memory_encoder.proofs.encode_load.Statement.{statement}
@@ -33,15 +33,15 @@ module _ (c : tie.Else1) where
   fits = record { sfits = c .before .before .struct-told .given .1 .1 .0 .1 }
 
 -- a compressed one: r is what a call answered of its parts, with the base b
-same : (c : tie.Else3) {b : ℕ} {r : Wrote} → (let i = it (c .before .before) in b ≡ i .rs1 .0 → r ≡ writtenLoad (mk (i .rd .0) b (toZ w64 (ofZ w64 (i .imm))) (i .len) true false) → r ≡ writtenLoad i)
+same : (c : tie.Else3) {b : ℕ} {r : Wrote} → (let i = it (c .before .before) in b ≡ i .rs1 .0 → r ≡ writeOf loads meaning (mk (i .rd .0) b (toZ w64 (ofZ w64 (i .imm))) (i .len) true false) → r ≡ writeOf loads meaning i)
 same c e p =
     let short = c .before in
     let i = it (short .before) in
-    p ∙ (λ j. writtenLoad (mk (i .rd .0) (e j) (toZ-ofZ w64 (i .imm) (fits (short .before)) j) (i .len) (sym (short .if2 .taken) j) (sym (c .if3 .left) j)))
+    p ∙ (λ j. writeOf loads meaning (mk (i .rd .0) (e j) (toZ-ofZ w64 (i .imm) (fits (short .before)) j) (i .len) (sym (short .if2 .taken) j) (sym (c .if3 .left) j)))
 
 -- one of 32 bits: c is what `code_of` found, k the arm, r its answer
 by-code : (c : tie.After-code-of) {k : Code} {r : Wrote} → c .code-of .result ≡ k
-    → (let i = it (c .before .before .before .before) in r ≡ putCode (λ n. build load (operands (i .rd .0) (i .rs1 .0) (c .before .before .load-func3 .result) n)) k → r ≡ writtenLoad i)
+    → (let i = it (c .before .before .before .before) in r ≡ putCode (λ n. build load (operands (i .rd .0) (i .rs1 .0) (c .before .before .load-func3 .result) n)) k → r ≡ writeOf loads meaning i)
 by-code c q p =
     let funct = c .before .before in
     let long = funct .before in

@@ -5,13 +5,13 @@ use Rattle.utils.specs.declared.Code.{Code}
 use Rattle.registers.proofs.Numbers.{valid}
 use Rattle.forms.specs.declared.Wrote.{Wrote, the-variants.Word}
 use Rattle.forms.specs.Layout.{build}
-use Rattle.forms.specs.Meaning.{bitOf}
+use Rattle.forms.specs.Meaning.{bitOf, writeOf}
 use Rattle.forms.proofs.Facts.{under, over}
 use Rattle.forms.proofs.Choices.{exactly, such}
 use Rattle.memory_decoder.specs.declared.StoreInstr.{StoreInstr}
-use Rattle.memory_decoder.specs.Forms.{store}
-use Rattle.memory_decoder.specs.Store.{mk}
-use Rattle.memory_encoder.specs.LoadStore.{encodeStoreDef, writtenStore, operands}
+use Rattle.memory_decoder.specs.Forms.{stores, store}
+use Rattle.memory_decoder.specs.Store.{meaning, mk}
+use Rattle.memory_encoder.specs.LoadStore.{encodeStoreDef, operands}
 use Rattle.memory_encoder.proofs.Funct3.{size-lt}
 use Rattle.memory_encoder.proofs.Writing.{store-layout, anything, no-registers, putCode, found, all-codes}
 use Rattle.memory_encoder.proofs.encode_store.Statement.{statement}
@@ -29,14 +29,14 @@ module _ (c : tie.Else1) where
   fits = record { sfits = c .before .before .struct-told .given .1 .1 .0 .1 }
 
 -- a compressed one: r is what a call answered of its parts, with the base b
-same : (c : tie.Then2) {b : ℕ} {r : Wrote} → (let i = it (c .before) in b ≡ i .rs1 .0 → r ≡ writtenStore (mk (i .rs2 .0) b (toZ w64 (ofZ w64 (i .imm))) (i .len) true) → r ≡ writtenStore i)
+same : (c : tie.Then2) {b : ℕ} {r : Wrote} → (let i = it (c .before) in b ≡ i .rs1 .0 → r ≡ writeOf stores meaning (mk (i .rs2 .0) b (toZ w64 (ofZ w64 (i .imm))) (i .len) true) → r ≡ writeOf stores meaning i)
 same c e p =
     let i = it (c .before) in
-    p ∙ (λ j. writtenStore (mk (i .rs2 .0) (e j) (toZ-ofZ w64 (i .imm) (fits (c .before)) j) (i .len) (sym (c .if2 .taken) j)))
+    p ∙ (λ j. writeOf stores meaning (mk (i .rs2 .0) (e j) (toZ-ofZ w64 (i .imm) (fits (c .before)) j) (i .len) (sym (c .if2 .taken) j)))
 
 -- one of 32 bits: c is what `code_of` found, k the arm, r its answer
 by-code : (c : tie.After-code-of) {k : Code} {r : Wrote} → c .code-of .result ≡ k
-    → (let i = it (c .before .before .before) in r ≡ putCode (λ n. build store (operands (i .rs2 .0) (i .rs1 .0) (c .before .size-of .result) n)) k → r ≡ writtenStore i)
+    → (let i = it (c .before .before .before) in r ≡ putCode (λ n. build store (operands (i .rs2 .0) (i .rs1 .0) (c .before .size-of .result) n)) k → r ≡ writeOf stores meaning i)
 by-code c q p =
     let long = c .before .before in
     let i = it (long .before) in
