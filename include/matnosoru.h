@@ -97,7 +97,7 @@ enum matnosoru_refusal {
     MATNOSORU_INVALID_CSR_OP = 2, /* SYSTEM reading: the CSR is not available, or is read-only and written */
     MATNOSORU_NOT_THE_FORM = 3,   /* load or store reading: not such a form */
     MATNOSORU_WIDTH = 4,          /* load funct3 7, store funct3 4 to 7 */
-    MATNOSORU_STACK_FORM = 5,     /* load or store reading: low two bits 10, and not its load or store with the stack pointer */
+    MATNOSORU_STACK_FORM = 5,     /* load or store reading: low two bits 10, and no stack-based form of the reading */
     MATNOSORU_REGISTER = 6,       /* writing: a register or an immediate of a CSR form above 31 */
     MATNOSORU_CSR = 7,            /* no address of its own, or the CSR is not available */
     MATNOSORU_READ_ONLY = 8,      /* writing: the CSR operation writes a read-only CSR */

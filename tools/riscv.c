@@ -156,7 +156,7 @@ static void hold_words(void) {
     }
 }
 
-/* What is no compressed form with the stack pointer, in document 01's order of numbers. */
+/* What is no stack-based compressed form, in document 01's order of numbers. */
 static void hold_stack_writes(void) {
     HOLD(matnosoru_write(0, 0, 0x00010220010107), REFUSED(6));  /* rd 32, of a width and with an immediate that no form has */
     HOLD(matnosoru_write(0, 0, 0x00012002010208), REFUSED(6));  /* rs2 32, the same */

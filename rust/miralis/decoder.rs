@@ -139,7 +139,7 @@ impl MiralisContext {
     }
 
     /// Decodes a raw read RISC-V instruction, or answers why it is no load: refusal 3 (not such a form), 4 (the reserved width) or 5 (low
-    /// two bits 10, and no load with the stack pointer).
+    /// two bits 10, and no stack-based load).
     pub fn try_decode_load(&self, raw: usize) -> Result<LoadInstr, Refusal> {
         let load = self.profile(0).decode_load(raw)?;
         Ok(LoadInstr {
@@ -153,7 +153,7 @@ impl MiralisContext {
     }
 
     /// Decodes a raw write RISC-V instruction, or answers why it is no store: refusal 3 (not such a form), 4 (a reserved width) or 5 (low
-    /// two bits 10, and no store with the stack pointer).
+    /// two bits 10, and no stack-based store).
     pub fn try_decode_store(&self, raw: usize) -> Result<StoreInstr, Refusal> {
         let store = self.profile(0).decode_store(raw)?;
         Ok(StoreInstr {

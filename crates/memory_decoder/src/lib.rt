@@ -40,7 +40,7 @@ const C_SDSP: usize = 0b111;
 // The stack pointer, which is the base of the stack-based forms
 const SP: Register = Register(2);
 
-// A load (register-based) instruction.
+// A load instruction.
 pub struct LoadInstr {
     pub rd: Register,
     pub rs1: Register,
@@ -50,7 +50,7 @@ pub struct LoadInstr {
     pub is_unsigned: bool,
 }
 
-// A store (register-based) instruction.
+// A store instruction.
 pub struct StoreInstr {
     pub rs2: Register,
     pub rs1: Register,

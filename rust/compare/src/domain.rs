@@ -14,7 +14,7 @@ pub const fn contains(reading: Reading, raw: u64) -> bool {
     }
 }
 
-/// The answer to a compressed load or store with the stack pointer, by Volume I's bits; `None` for any other word. No load has rd 0.
+/// The answer to a stack-based compressed load or store, by Volume I's bits; `None` for any other word. No load has rd 0.
 #[inline]
 pub const fn stack_form(reading: Reading, raw: u64) -> Option<u64> {
     // bits high:low of the word, as bits from `to` up
@@ -36,7 +36,7 @@ pub const fn stack_form(reading: Reading, raw: u64) -> Option<u64> {
     Some(u64::from_le_bytes([kind, width, 1, first as u8, second as u8, imm as u8, (imm >> 8) as u8, 0]))
 }
 
-/// The answer that is wanted for a word outside the domain: a form with the stack pointer, or document 01's number.
+/// The answer that is wanted for a word outside the domain: a stack-based form, or document 01's number.
 #[inline]
 pub const fn wanted(reading: Reading, raw: u64) -> u64 {
     if let Some(answer) = stack_form(reading, raw) {
@@ -57,7 +57,7 @@ pub struct Class {
     pub name: &'static str,
     /// The word of it that docs/DIFFERENCES.md has.
     pub example: u64,
-    /// The number that all of it is refused with; `None` for the forms with the stack pointer, which are read.
+    /// The number that all of it is refused with; `None` for the stack-based forms, which are read.
     pub refusal: Option<u8>,
     of: fn(low: u64, opcode: u64, half3: u64, word3: u64) -> bool,
 }
@@ -177,7 +177,7 @@ mod tests {
         }
     }
 
-    /// Words that an assembler made of the forms with the stack pointer: each bit of an immediate alone, and all of them.
+    /// Words that an assembler made of the stack-based forms: each bit of an immediate alone, and all of them.
     #[test]
     fn stack_forms() {
         let load = |width, rd, imm: u16| u64::from_le_bytes([7, width, 1, rd, 2, imm as u8, (imm >> 8) as u8, 0]);

@@ -14,7 +14,7 @@ pub enum Refusal {
     NotTheForm,
     /// 4, load or store reading: load funct3 7, store funct3 4 to 7.
     ReservedWidth,
-    /// 5, load or store reading: low two bits 10, and not this reading's load or store with the stack pointer.
+    /// 5, load or store reading: low two bits 10, and no stack-based form of this reading.
     StackForm,
     /// 6, writing: a register or an immediate of a CSR form above 31.
     RegisterRange,
@@ -95,7 +95,7 @@ impl fmt::Display for Refusal {
             Refusal::InvalidCsrOp => "the CSR is not available, or is read-only and written",
             Refusal::NotTheForm => "not a word of this reading",
             Refusal::ReservedWidth => "a reserved width",
-            Refusal::StackForm => "low two bits 10, and not this reading's load or store with the stack pointer",
+            Refusal::StackForm => "low two bits 10, and no stack-based form of this reading",
             Refusal::RegisterRange => "a register or immediate above 31",
             Refusal::NoSuchCsr => "no such CSR, or not available",
             Refusal::ReadOnlyCsr => "the CSR is read-only",

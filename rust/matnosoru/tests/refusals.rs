@@ -119,7 +119,7 @@ fn writings() {
     }
 }
 
-/// Writing a compressed form with the stack pointer: 9, then 10.
+/// Writing a stack-based compressed form: 9, then 10.
 #[test]
 fn stack_writings() {
     for imm in [0, 4, 8, 1, -1, 512, isize::MAX] {
@@ -165,7 +165,7 @@ fn words() {
     // an address that has no register, alone and with a register above 31
     assert_eq!(write(0x0FFF_0306), Err(Refusal::NoSuchCsr));
     assert_eq!(write(0x20_0FFF_0306), Err(Refusal::RegisterRange));
-    // rs1 32 of a fence, rd 32 of a CSR form, rs1 32 of a load; with the stack pointer rd 32 of a load and rs2 32 of a store, each also
+    // rs1 32 of a fence, rd 32 of a CSR form, rs1 32 of a load; rd 32 of a stack-based load and rs2 32 of a stack-based store, each also
     // of a width that has no form
     for word in [0x20_0004, 0x20_0300_0105, 0x20_0000_0107, 0x02_2001_0407, 0x02_2001_0107, 0x20_0201_0808, 0x20_0201_0208] {
         assert_eq!(write(word), Err(Refusal::RegisterRange), "{word:#x}");

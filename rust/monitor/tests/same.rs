@@ -1,4 +1,4 @@
-//! The replacement answers as the original does inside the domain that was ported. Outside it, it reads the forms with the stack pointer
+//! The replacement answers as the original does inside the domain that was ported. Outside it, it reads the stack-based forms
 //! and panics at all else. (The whole comparison is the package `compare`; this is the part of it that takes seconds.)
 
 #[cfg(not(have_miralis))]
@@ -99,7 +99,7 @@ mod run {
         }
     }
 
-    /// The compressed forms with the stack pointer, for which the original has `todo!`.
+    /// The stack-based compressed forms, for which the original has `todo!`.
     #[test]
     fn stack_forms() {
         use monitor::arch::{Register::*, Width};

@@ -5,7 +5,7 @@
 //! - `--monitor` puts rust/miralis/decoder.rs in the place of Miralis's src/decoder.rs.
 //!
 //! Where the Rust's answer is the wanted one (`compare::domain`), the two answers are the same. Everywhere else the library's is a
-//! form with the stack pointer or document 01's number, and docs/DIFFERENCES.md has a row that says what the Rust does and what the
+//! stack-based form or document 01's number, and docs/DIFFERENCES.md has a row that says what the Rust does and what the
 //! library does. Each instruction that the library reads it also writes back to the word that it was.
 //!
 //! The exit status is 1 where anything differs, and where there is no text of Miralis to compare with.

@@ -258,7 +258,7 @@ mod run {
         (0..0x1_0000u64).filter(move |w| w & 3 == low && funct3.contains(&(w >> 13)))
     }
 
-    /// All halfwords with low two bits 10: the reading's forms with the stack pointer, or all others.
+    /// All halfwords with low two bits 10: the reading's stack-based forms, or all others.
     fn stack(reading: Reading, forms: bool) -> impl Iterator<Item = u64> {
         halves(2, ANY).filter(move |w| stack_form(reading, *w).is_some() == forms)
     }

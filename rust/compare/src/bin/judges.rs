@@ -57,7 +57,7 @@ fn text(instr: Instr) -> String {
         Width::Byte8 => "d",
     };
     let c = |compressed: bool| if compressed { "c." } else { "" };
-    // a compressed form with the stack pointer has it in its name too
+    // a stack-based form has sp in its name too
     let sp = |compressed: bool, base: Register| if compressed && base == Register::X2 { "sp" } else { "" };
     match instr {
         Instr::Illegal(i) => match i {
@@ -265,7 +265,7 @@ fn accesses(pairs: &[(Register, Register)]) -> Vec<Instr> {
     all
 }
 
-/// All compressed loads and stores, and many that are none: with a base of x8 to x15, then with the stack pointer.
+/// All compressed loads and stores, and many that are none: register-based, then stack-based.
 fn compressed() -> Vec<Instr> {
     let mut all: Vec<Instr> = Vec::new();
     let mut one = |a: usize, b: usize, imm, len| {

@@ -313,7 +313,7 @@ mod run {
         }
     }
 
-    /// A compressed form with the stack pointer, as Volume I draws it.
+    /// A stack-based compressed form, as Volume I draws it.
     struct StackForm {
         reading: Reading,
         funct3: u64,
