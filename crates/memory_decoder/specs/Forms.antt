@@ -29,7 +29,7 @@ c-ld = c-double 0b011 rd ++ equal funct 3 0b011 ++ compressed
 abbrev pub c-lwsp : Layout
 c-lwsp = fix 3 0b010 ++ uimm 5 5 ++ reg rd ++ uimm 4 2 ++ uimm 7 6 ++ fix 2 0b10 ++ aligned 2 ++ is rs1 2 ++ not-x0 rd ++ equal funct 3 0b010 ++ compressed
 
--- C.LDSP: uimm[5] | rd | uimm[4:3|8:6]; the same
+-- C.LDSP: uimm[5] | rd | uimm[4:3|8:6]; the base is sp, and rd 0 is reserved
 abbrev pub c-ldsp : Layout
 c-ldsp = fix 3 0b011 ++ uimm 5 5 ++ reg rd ++ uimm 4 3 ++ uimm 8 6 ++ fix 2 0b10 ++ aligned 3 ++ is rs1 2 ++ not-x0 rd ++ equal funct 3 0b011 ++ compressed
 

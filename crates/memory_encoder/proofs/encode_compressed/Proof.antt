@@ -19,7 +19,7 @@ use Rattle.memory_encoder.proofs.Writing.{load-layout, store-layout, an
 use Rattle.memory_encoder.proofs.encode_compressed.Statement.{statement}
 use Rattle.memory_encoder.proofs.encode_compressed.Tie as tie
 
--- one of the eight registers of three bits; none of them; not the stack pointer; a width below 32 bits
+-- one of the eight registers of three bits; none of them; not the stack pointer; neither; a width below 32 bits
 abbrev eight : Told
 eight = such (under 4 ∷ is 3 1 0b1 ∷ [])
 

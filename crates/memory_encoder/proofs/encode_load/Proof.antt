@@ -33,7 +33,8 @@ module _ (c : tie.Else1) where
   fits = record { sfits = c .before .before .struct-told .given .1 .1 .0 .1 }
 
 -- a compressed one: r is what a call answered of its parts, with the base b
-same : (c : tie.Else3) {b : ℕ} {r : Wrote} → (let i = it (c .before .before) in b ≡ i .rs1 .0 → r ≡ writeOf loads meaning (mk (i .rd .0) b (toZ w64 (ofZ w64 (i .imm))) (i .len) true false) → r ≡ writeOf loads meaning i)
+same : (c : tie.Else3) {b : ℕ} {r : Wrote}
+    → (let i = it (c .before .before) in b ≡ i .rs1 .0 → r ≡ writeOf loads meaning (mk (i .rd .0) b (toZ w64 (ofZ w64 (i .imm))) (i .len) true false) → r ≡ writeOf loads meaning i)
 same c e p =
     let short = c .before in
     let i = it (short .before) in

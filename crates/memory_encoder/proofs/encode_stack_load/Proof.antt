@@ -38,7 +38,8 @@ word c q p =
     let s = c .before .before .before .before in
     let width = c .before .enum-told .given .1 in
     let x : KnownAs (s .args .rd) some = (λ e. c .before .before .before .if1 .left (omega arith), (omega arith, tt)) in
-    found-step c-lwsp 4 256 (λ n. refl) _ (s .args .imm) (s .fits .imm) (c .offset .ensures) q p ∙ sym (load-layout some (exactly 2) (exactly 2) (exactly 1) (load s) x refl (ap (λ (w : Width). funct3Of w false) width) refl refl)
+    found-step c-lwsp 4 256 (λ n. refl) _ (s .args .imm) (s .fits .imm) (c .offset .ensures) q p
+    ∙ sym (load-layout some (exactly 2) (exactly 2) (exactly 1) (load s) x refl (ap (λ (w : Width). funct3Of w false) width) refl refl)
 
 double : (c : tie.After-offset2) {k : Code} {r : Wrote} → c .offset2 .result ≡ k
     → (let s = c .before .before .before .before in r ≡ putCode (λ n. build c-ldsp (operands (s .args .rd) 2 0b011 n)) k → Answer s r)
@@ -46,7 +47,8 @@ double c q p =
     let s = c .before .before .before .before in
     let width = c .before .enum-told3 .given .1 in
     let x : KnownAs (s .args .rd) some = (λ e. c .before .before .before .if1 .left (omega arith), (omega arith, tt)) in
-    found-step c-ldsp 8 512 (λ n. refl) _ (s .args .imm) (s .fits .imm) (c .offset2 .ensures) q p ∙ sym (load-layout some (exactly 2) (exactly 3) (exactly 1) (load s) x refl (ap (λ (w : Width). funct3Of w false) width) refl refl)
+    found-step c-ldsp 8 512 (λ n. refl) _ (s .args .imm) (s .fits .imm) (c .offset2 .ensures) q p
+    ∙ sym (load-layout some (exactly 2) (exactly 3) (exactly 1) (load s) x refl (ap (λ (w : Width). funct3Of w false) width) refl refl)
 
 pub encode-stack-load-spec : {M : Type 1} → statement M
 encode-stack-load-spec =

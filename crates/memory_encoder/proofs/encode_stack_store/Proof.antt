@@ -37,7 +37,8 @@ word c q p =
     let s = c .before .before .before in
     let width = c .before .enum-told .given .1 in
     let x : KnownAs (s .args .rs2) some = (omega arith, tt) in
-    found-step c-swsp 4 256 (λ n. refl) _ (s .args .imm) (s .fits .imm) (c .offset .ensures) q p ∙ sym (store-layout some (exactly 2) (exactly 2) (exactly 1) (store s) x refl (ap sizeOf width) refl refl)
+    found-step c-swsp 4 256 (λ n. refl) _ (s .args .imm) (s .fits .imm) (c .offset .ensures) q p
+    ∙ sym (store-layout some (exactly 2) (exactly 2) (exactly 1) (store s) x refl (ap sizeOf width) refl refl)
 
 double : (c : tie.After-offset2) {k : Code} {r : Wrote} → c .offset2 .result ≡ k
     → (let s = c .before .before .before in r ≡ putCode (λ n. build c-sdsp (operands (s .args .rs2) 2 0b11 n)) k → Answer s r)
@@ -45,7 +46,8 @@ double c q p =
     let s = c .before .before .before in
     let width = c .before .enum-told3 .given .1 in
     let x : KnownAs (s .args .rs2) some = (omega arith, tt) in
-    found-step c-sdsp 8 512 (λ n. refl) _ (s .args .imm) (s .fits .imm) (c .offset2 .ensures) q p ∙ sym (store-layout some (exactly 2) (exactly 3) (exactly 1) (store s) x refl (ap sizeOf width) refl refl)
+    found-step c-sdsp 8 512 (λ n. refl) _ (s .args .imm) (s .fits .imm) (c .offset2 .ensures) q p
+    ∙ sym (store-layout some (exactly 2) (exactly 3) (exactly 1) (store s) x refl (ap sizeOf width) refl refl)
 
 pub encode-stack-store-spec : {M : Type 1} → statement M
 encode-stack-store-spec =

@@ -29,7 +29,8 @@ module _ (c : tie.Else1) where
   fits = record { sfits = c .before .before .struct-told .given .1 .1 .0 .1 }
 
 -- a compressed one: r is what a call answered of its parts, with the base b
-same : (c : tie.Then2) {b : ℕ} {r : Wrote} → (let i = it (c .before) in b ≡ i .rs1 .0 → r ≡ writeOf stores meaning (mk (i .rs2 .0) b (toZ w64 (ofZ w64 (i .imm))) (i .len) true) → r ≡ writeOf stores meaning i)
+same : (c : tie.Then2) {b : ℕ} {r : Wrote}
+    → (let i = it (c .before) in b ≡ i .rs1 .0 → r ≡ writeOf stores meaning (mk (i .rs2 .0) b (toZ w64 (ofZ w64 (i .imm))) (i .len) true) → r ≡ writeOf stores meaning i)
 same c e p =
     let i = it (c .before) in
     p ∙ (λ j. writeOf stores meaning (mk (i .rs2 .0) (e j) (toZ-ofZ w64 (i .imm) (fits (c .before)) j) (i .len) (sym (c .if2 .taken) j)))
