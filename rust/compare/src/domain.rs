@@ -176,34 +176,4 @@ mod tests {
             }
         }
     }
-
-    /// Words that an assembler made of the stack-based forms: each bit of an immediate alone, and all of them.
-    #[test]
-    fn stack_forms() {
-        let load = |width, rd, imm: u16| u64::from_le_bytes([7, width, 1, rd, 2, imm as u8, (imm >> 8) as u8, 0]);
-        let store = |width, rs2, imm: u16| u64::from_le_bytes([8, width, 1, 2, rs2, imm as u8, (imm >> 8) as u8, 0]);
-        // the immediate in steps of its form, and the words of c.lwsp, c.ldsp, c.swsp and c.sdsp with x10
-        for (steps, words) in [
-            (0, [0x4502, 0x6502, 0xC02A, 0xE02A]),
-            (1, [0x4512, 0x6522, 0xC22A, 0xE42A]),
-            (2, [0x4522, 0x6542, 0xC42A, 0xE82A]),
-            (4, [0x4542, 0x7502, 0xC82A, 0xF02A]),
-            (8, [0x5502, 0x6506, 0xD02A, 0xE0AA]),
-            (16, [0x4506, 0x650A, 0xC0AA, 0xE12A]),
-            (32, [0x450A, 0x6512, 0xC12A, 0xE22A]),
-            (63, [0x557E, 0x757E, 0xDFAA, 0xFFAA]),
-        ] {
-            let (w, d) = (steps * 4, steps * 8);
-            let answers = [(Load, load(4, 10, w)), (Load, load(8, 10, d)), (Store, store(4, 10, w)), (Store, store(8, 10, d))];
-            for (raw, (reading, answer)) in words.into_iter().zip(answers) {
-                assert_eq!(stack_form(reading, raw), Some(answer), "{raw:#x}");
-                assert_eq!(stack_form(reading, raw | 0xDEAD_BEEF_DEAD_0000), Some(answer), "{raw:#x}");
-            }
-        }
-        // x31, and x0, which is stored and not loaded
-        assert_eq!([0x4F82, 0x6F82].map(|raw| stack_form(Load, raw)), [Some(load(4, 31, 0)), Some(load(8, 31, 0))]);
-        assert_eq!([0xC07E, 0xE07E].map(|raw| stack_form(Store, raw)), [Some(store(4, 31, 0)), Some(store(8, 31, 0))]);
-        assert_eq!([0xC002, 0xE002].map(|raw| stack_form(Store, raw)), [Some(store(4, 0, 0)), Some(store(8, 0, 0))]);
-        assert_eq!([0x4002, 0x6002].map(|raw| stack_form(Load, raw)), [None; 2]);
-    }
 }
