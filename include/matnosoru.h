@@ -2,8 +2,8 @@
  * matnosoru: a proved RISC-V decoder, encoder and trap log. Link libmatnosoru.a (tools/native matnosoru TARGET).
  *
  * Every function is total: it has an answer for all arguments, keeps no state of its own, allocates nothing and calls nothing back.
- * A pointer may be any where its length is 0, NULL too; else it must be good for that many bytes. A buffer that is written must
- * overlap no other argument.
+ * A pointer may be any where its length is 0, NULL too; else it must be good for that many elements, and words must be aligned as
+ * uint64_t is. A buffer that is written must overlap no other argument.
  *
  * A profile is what a hart has, in two words. `flags`, from bit 0 up: zicntr, zihpm, tee, s, h, sstc, v, crypto; bits that mean
  * nothing are ignored. `custom`: bit k makes the CSR address 0x7C0 + k available.
@@ -55,12 +55,14 @@ extern "C" {
 
 /* The number of this header. It is raised when an answer, a length or a function here changes. An archive fits where
  * matnosoru_version() answers the same. */
-#define MATNOSORU_VERSION 2
+#define MATNOSORU_VERSION 3
 
 /* The most bytes that a record has. */
 #define MATNOSORU_LONGEST_RECORD 11
-/* The most bytes that a line of the listing has, its line feed included: a place of 20 digits, then " 09 refused 5". */
-#define MATNOSORU_LONGEST_LINE 34
+/* The most bytes that a line of the listing has, its line feed included: a place of 20 digits, then " 09 refused 15". */
+#define MATNOSORU_LONGEST_LINE 35
+/* The length of a slot: a record, then zeros. */
+#define MATNOSORU_SLOT_LENGTH 12
 /* The length of a table: for each of the eight harts the flags in two bytes and the mask in eight, low byte first. */
 #define MATNOSORU_TABLE_LENGTH 80
 /* The length of a log's state: a table, then the current hart in one byte. */
@@ -87,7 +89,7 @@ extern "C" {
  *   6        the same with an immediate in place of rs1
  *   7        load: width in bytes, flags (1 compressed, 2 unsigned), rd, rs1, immediate in two bytes (two's complement, low first)
  *   8        store: width in bytes, flags (1 compressed), rs1, rs2, immediate in two bytes
- *   9        no instruction, the word is refused: reading (0 SYSTEM, 1 load, 2 store), number
+ *   9        no instruction, the word is refused: reading (0 SYSTEM, 1 load, 2 store, 3 none of these), number
  */
 #define MATNOSORU_KIND(word) ((uint64_t)(word) & 0xFF)
 
@@ -107,7 +109,9 @@ enum matnosoru_refusal {
     MATNOSORU_CUT_SHORT = 12,     /* log: empty, or the body is cut short */
     MATNOSORU_FIELD = 13,         /* log: a field that no writer would write under this profile */
     MATNOSORU_OUTPUT_SHORT = 14,  /* the output buffer is shorter than what is to be written */
-    MATNOSORU_HART = 15           /* the hart is above 7 */
+    MATNOSORU_HART = 15,          /* the hart is above 7 */
+    MATNOSORU_READING = 16,       /* the reading is above 2; in a record alone */
+    MATNOSORU_LIST_LENGTHS = 17   /* the lists are not of one length */
 };
 
 /* The MATNOSORU_VERSION of the header that the archive fits. */
@@ -136,12 +140,24 @@ uint64_t matnosoru_csr_count(uint64_t flags, uint64_t custom);
 uint64_t matnosoru_write_instruction(uint64_t flags, uint64_t custom, uint64_t instruction_word, uint8_t *out, size_t out_len);
 
 /* Writes the log record of a refused word (kind 9): the record's length, or the refusal 13 for a pair of reading and number that
- * no reading gives, then 14, with `out` unchanged. */
+ * no record has, then 14, with `out` unchanged. */
 uint64_t matnosoru_write_refusal(uint64_t reading, uint64_t number, uint64_t raw, uint8_t *out, size_t out_len);
 
 /* Writes the log record that sets a hart's profile (kind 0A): the record's length, or the refusal 15, then 14, with `out`
  * unchanged. */
 uint64_t matnosoru_write_profile(uint64_t hart, uint64_t flags, uint64_t custom, uint8_t *out, size_t out_len);
+
+/* Writes the log records of many trapped words, each into a slot of MATNOSORU_SLOT_LENGTH bytes: the record, then zeros. `table` has
+ * the profiles of the harts. The word words[i] is read in the reading readings[i] (0 SYSTEM, 1 load, 2 store) under the profile of the
+ * hart harts[i]. Its record is the instruction's, or one of kind 9: the reading, the refusal's number, the word in eight bytes, low byte
+ * first. A hart above 7 makes a record of kind 9 with number 15 and the reading given, or 3 if that is above 2. Otherwise a reading
+ * above 2 makes one with reading 3 and number 16.
+ *
+ * The answer is the number of slots (its low 32 bits). The bytes of `out` after the last slot stay as they are. Or the refusal, with
+ * `out` unchanged: 17 where the three lists are not of one length, then 14 where `table_len` is not MATNOSORU_TABLE_LENGTH, then 14
+ * where `out` is shorter than the slots. */
+uint64_t matnosoru_batch(const uint8_t *table, size_t table_len, const uint64_t *words, size_t words_len, const uint8_t *harts,
+                         size_t harts_len, const uint8_t *readings, size_t readings_len, uint8_t *out, size_t out_len);
 
 /* Checks the first record of a log under one profile: the record's length, or the refusal 12 where the log is empty, then 11, 12,
  * 13. What follows the record is not looked at. */

@@ -9,7 +9,7 @@
 /* the function `list` in the comment at the top of matnosoru.h */
 #include "example.h"
 
-enum { ROUNDS = 300000, BLOCK = 328, ROOM = 64 };
+enum { ROUNDS = 300000, BLOCK = 344, ROOM = 64 };
 
 #if defined(__x86_64__)
 enum { WRITE = 1, EXIT = 60 };
@@ -220,6 +220,47 @@ static void hold_log(void) {
     HOLD(matnosoru_next(other, sizeof other, LOG, sizeof LOG), REFUSED(15));
 }
 
+/* Seven trapped words, each with its hart, its reading and its slot. Hart 5 has zicntr, the others have nothing. */
+static const uint64_t TRAPPED[7] = {0xF14022F3, 0xC0002573, 0xC0002573, 0x4502, 0xE002, 0x10500073, ~(uint64_t)0};
+static const uint8_t HARTS[7] = {0, 0, 5, 7, 1, 8, 4}, READINGS[7] = {0, 0, 0, 1, 2, 4, 255};
+static const uint8_t SLOTS[7][MATNOSORU_SLOT_LENGTH] = {
+    {0x05, 0x02, 0x14, 0x0F, 0x05},                                           /* set, mhartid, rd 5, rs1 0 */
+    {0x09, 0x00, 0x02, 0x73, 0x25, 0x00, 0xC0},                               /* cycle is not available */
+    {0x05, 0x02, 0x00, 0x0C, 0x0A},                                           /* set, cycle, rd 10, rs1 0 */
+    {0x07, 0x04, 0x01, 0x0A, 0x02},                                           /* c.lwsp x10,0(x2) */
+    {0x08, 0x08, 0x01, 0x02, 0x00},                                           /* c.sdsp x0,0(x2) */
+    {0x09, 0x03, 0x0F, 0x73, 0x00, 0x50, 0x10},                               /* no such hart, and no such reading */
+    {0x09, 0x03, 0x10, 0xFF, 0xFF, 0xFF, 0xFF, 0xFF, 0xFF, 0xFF, 0xFF, 0x00}, /* no such reading */
+};
+static const char LAST_TWO[] = "at kind answer\n0 09 refused 15\n11 09 refused 16\nend 22\n";
+
+/* What a call on these lists answers, with these lengths; it writes so many slots and no other byte. */
+static void hold_slots(size_t table_len, size_t words_len, size_t harts_len, size_t readings_len, size_t room, uint64_t wanted, size_t slots) {
+    uint8_t table[MATNOSORU_TABLE_LENGTH + 1] = {0}, slotted[sizeof SLOTS + 1], other[sizeof SLOTS + 1];
+    table[50] = 1;
+    memset(slotted, 0xEE, sizeof slotted);
+    memset(other, 0xEE, sizeof other);
+    memcpy(other, SLOTS, slots * MATNOSORU_SLOT_LENGTH);
+    HOLD(matnosoru_batch(table, table_len, TRAPPED, words_len, HARTS, harts_len, READINGS, readings_len, slotted, room), wanted);
+    HOLD((uint64_t)memcmp(slotted, other, sizeof other), 0);
+}
+
+static void hold_batch(void) {
+    uint8_t log[22];
+    hold_slots(80, 7, 7, 7, sizeof SLOTS, 7, 7);
+    hold_slots(80, 6, 6, 6, sizeof SLOTS + 1, 6, 6);
+    hold_slots(80, 0, 0, 0, sizeof SLOTS, 0, 0);
+    hold_slots(80, 6, 7, 7, sizeof SLOTS, REFUSED(17), 0);
+    hold_slots(80, 7, 6, 7, sizeof SLOTS, REFUSED(17), 0);
+    hold_slots(79, 7, 7, 6, 0, REFUSED(17), 0); /* 17 comes before 14 */
+    hold_slots(79, 7, 7, 7, sizeof SLOTS, REFUSED(14), 0);
+    hold_slots(81, 7, 7, 7, sizeof SLOTS, REFUSED(14), 0);
+    hold_slots(80, 7, 7, 7, sizeof SLOTS - 1, REFUSED(14), 0);
+    memcpy(log, SLOTS[5], 11);
+    memcpy(log + 11, SLOTS[6], 11);
+    hold_listing(log, sizeof log, LAST_TWO, sizeof LAST_TWO - 1);
+}
+
 /* The functions of numbers, and each function that takes a buffer, with none. */
 static void hold_rest(void) {
     uint8_t state[MATNOSORU_STATE_LENGTH], wfi = 1;
@@ -250,6 +291,8 @@ static void hold_rest(void) {
     HOLD(matnosoru_bad_line(0, 0, NULL, 0), REFUSED(13));
     HOLD(matnosoru_bad_line(256, 0, NULL, 0), REFUSED(13));
     HOLD(matnosoru_tables_differ(NULL, 0, NULL, 0), REFUSED(14));
+    HOLD(matnosoru_batch(NULL, 0, NULL, 0, NULL, 0, NULL, 0, NULL, 0), REFUSED(14));
+    HOLD(matnosoru_batch(state, 80, NULL, 0, NULL, 0, NULL, 0, NULL, 0), 0);
 }
 
 /* ------------------------------------------------ answers that are compared ------------------------------------------------ */
@@ -302,6 +345,21 @@ static void walk(uint64_t any, uint64_t bent, const uint8_t *bytes) {
     put(hash(room, ROOM));
 }
 
+/* Five trapped words. One call in sixteen has lists of unequal length, one a table that is cut short, one too little room. */
+static void batch(uint64_t any, uint64_t bent, const uint8_t *table) {
+    uint64_t words[5];
+    uint8_t harts[5], readings[5], room[ROOM];
+    for (int k = 0; k < 5; k++) {
+        words[k] = raw_word();
+        harts[k] = (uint8_t)((any >> 8 * k) % 9);
+        readings[k] = (uint8_t)((bent >> 8 * k) % 4);
+    }
+    memset(room, 0xEE, ROOM);
+    put(matnosoru_batch(table, 80 - ((any >> 40) % 16 == 0), words, 5, harts, 5 - ((any >> 44) % 16 == 0), readings, 5, room,
+                        ROOM - ((any >> 48) % 16 == 0 ? 5 : 0)));
+    put(hash(room, ROOM));
+}
+
 static void round_of(int round) {
     uint64_t flags = next() % 256, custom = next(), raw = raw_word(), any = next(), bent = next(), read[3];
     uint8_t bytes[16], room[ROOM], tables[2][80];
@@ -320,7 +378,7 @@ static void round_of(int round) {
     put(matnosoru_write_instruction(flags, custom, instruction, room, (bent >> 16) % 16));
     put_bytes(room, 16);
     memset(room, 0xEE, ROOM);
-    put(matnosoru_write_refusal(any % 4, bent % 7, raw, room, (bent >> 16) % 16));
+    put(matnosoru_write_refusal(any % 5, bent % 18, raw, room, (bent >> 16) % 16));
     put_bytes(room, 16);
     memset(room, 0xEE, ROOM);
     put(matnosoru_write_profile(any % 9, flags, custom, room, (bent >> 16) % 16));
@@ -337,12 +395,14 @@ static void round_of(int round) {
     for (int k = 0; k < 80; k++) tables[0][k] = tables[1][k] = (uint8_t)(custom >> (k & 7) * 8);
     tables[1][any % 80] ^= (uint8_t)(1 << (any >> 8 & 7));
     put(round % 64 ? 0 : matnosoru_tables_differ(tables[0], 80, tables[1], 80 - (any >> 63)));
+    batch(any, bent, tables[1]);
 }
 
 void begin(void) {
     hold_words();
     hold_stack_writes();
     hold_log();
+    hold_batch();
     hold_rest();
     for (int round = 0; round < ROUNDS; round++) {
         round_of(round);

@@ -1,12 +1,11 @@
 //! The cases, each a loop over the words of a reading whose answers are made and not used.
 
 use std::hint::black_box;
-use std::time::Instant;
 
+use bench::program::Work;
+use bench::streams::{self, PROFILE, Stream};
 use compare::sides::{Library, Original, Side};
 use compare::{Reading, domain};
-
-use crate::streams::{self, PROFILE, Stream};
 
 /// What the cases read under.
 struct Under {
@@ -93,70 +92,45 @@ impl Case {
     }
 }
 
-/// The library answers each word of a stream as the Rust does, or as is wanted where the Rust cannot read it; else there is nothing to
-/// time.
-fn assert_same(stream: &Stream) {
-    let (rust, library) = (Original::new(PROFILE), Library::new(PROFILE));
-    for reading in Reading::ALL {
-        for &word in &stream.words[reading as usize] {
-            let wanted = if domain::contains(reading, word) { rust.read(reading, word) } else { domain::wanted(reading, word) };
-            assert_eq!(wanted, library.read(reading, word), "{} {word:#X}", reading.name());
-        }
+/// A stream, and the words of it that each case reads.
+pub struct Words {
+    under: Under,
+    stream: Stream,
+    read: [Stream; 4],
+}
+
+pub fn all() -> Vec<Words> {
+    let words = |stream| Words { under: black_box(Under::new()), read: CASES.map(|case| case.words(&stream)), stream };
+    streams::all().into_iter().map(words).collect()
+}
+
+impl Work for Words {
+    const UNIT: &'static str = "word";
+
+    fn cases() -> [&'static str; 4] {
+        CASES.map(|case| case.name)
     }
-}
 
-pub fn names() {
-    CASES.iter().for_each(|case| println!("{}", case.name));
-}
-
-/// Each stream, and how many words of it each case reads.
-pub fn streams() {
-    for stream in streams::all() {
-        let counts = CASES.map(|case| case.words(&stream).len().to_string());
-        println!("{} {}", stream.name, counts.join(" "));
+    fn name(&self) -> &'static str {
+        self.stream.name
     }
-}
 
-pub fn time() {
-    let under = black_box(Under::new());
-    let names = CASES.map(|case| case.name).join(" | ");
-    println!("| ns per word, best (median) | {names} |\n|---|---|---|---|---|");
-    for stream in streams::all() {
-        assert_same(&stream);
-        let cells = time_all(&under, &stream).map(|took| match &took[..] {
-            [] => "-".into(),
-            took => format!("{:.1} ({:.1})", took[0], took[took.len() / 2]),
-        });
-        println!("| {} | {} |", stream.name, cells.join(" | "));
+    fn lengths(&self) -> [usize; 4] {
+        self.read.each_ref().map(Stream::count)
     }
-}
 
-/// How long each case takes for a word, in rounds that take turns: from the best up, or none where the case reads no word.
-fn time_all(under: &Under, stream: &Stream) -> [Vec<f64>; 4] {
-    const ROUNDS: usize = 400;
-    let streams = CASES.map(|case| case.words(stream));
-    let mut took: [Vec<f64>; 4] = Default::default();
-    for _ in 0..ROUNDS {
-        for ((case, stream), took) in CASES.iter().zip(&streams).zip(&mut took).filter(|((_, stream), _)| stream.len() > 0) {
-            // a round is long enough for the clock
-            let repeat = 20_000usize.div_ceil(stream.len());
-            let began = Instant::now();
-            for _ in 0..repeat {
-                case.run(under, stream);
+    /// The library answers each word as the Rust does, or as is wanted where the Rust cannot read it.
+    fn assert_same(&self) {
+        let (rust, library) = (Original::new(PROFILE), Library::new(PROFILE));
+        for reading in Reading::ALL {
+            for &word in &self.stream.words[reading as usize] {
+                let wanted = if domain::contains(reading, word) { rust.read(reading, word) } else { domain::wanted(reading, word) };
+                assert_eq!(wanted, library.read(reading, word), "{} {word:#X}", reading.name());
             }
-            took.push(began.elapsed().as_secs_f64() * 1e9 / (repeat * stream.len()) as f64);
         }
     }
-    took.iter_mut().for_each(|took| took.sort_by(f64::total_cmp));
-    took
-}
 
-pub fn count(stream: &str, case: &str, times: u32) {
-    let under = black_box(Under::new());
-    let stream = streams::all().into_iter().find(|s| s.name == stream);
-    let (Some(stream), Some(case)) = (stream, CASES.iter().find(|c| c.name == case)) else { return crate::usage() };
-    let words = case.words(&stream);
-    for _ in 0..times {
-        case.run(&under, &words);
+    fn run(&mut self, case: usize) {
+        CASES[case].run(&self.under, &self.read[case]);
     }
 }

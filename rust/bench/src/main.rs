@@ -10,47 +10,16 @@
 //!
 //! OPENSBI_ELF names the image whose words are the first five streams; without it there is only the sixth. A case reads those words of
 //! a stream that it can read, and all figures are for each word that it reads.
-//!
-//! This program has Miralis's text in itself a second time (as the package `oracle` has it): only so can it be inlined here.
 
 #![cfg_attr(have_miralis, allow(dead_code))]
 
 #[cfg(have_miralis)]
-extern crate self as log;
-
-#[cfg(have_miralis)]
-include!(concat!(env!("OUT_DIR"), "/miralis.rs"));
-
-#[cfg(have_miralis)]
-macro_rules! dropped {
-    ($($message:tt)*) => {{
-        let _ = format_args!($($message)*);
-    }};
-}
-#[cfg(have_miralis)]
-pub(crate) use dropped as warn;
-
-#[cfg(have_miralis)]
-pub mod logger {
-    pub(crate) use dropped as debug;
-}
-
-#[cfg(have_miralis)]
-#[path = "../../oracle/src/platform.rs"]
-pub mod platform;
-
-#[cfg(have_miralis)]
-#[path = "../../oracle/src/host.rs"]
-pub mod host;
+include!("text.rs");
 
 #[cfg(have_miralis)]
 mod cases;
 #[cfg(have_miralis)]
-mod image;
-#[cfg(have_miralis)]
 mod listing;
-#[cfg(have_miralis)]
-mod streams;
 
 #[cfg(not(have_miralis))]
 fn main() {
@@ -59,23 +28,10 @@ fn main() {
 
 #[cfg(have_miralis)]
 fn main() {
-    let words: Vec<String> = std::env::args().skip(1).collect();
-    match &words.iter().map(String::as_str).collect::<Vec<&str>>()[..] {
-        [] => cases::time(),
-        ["count", stream, case, times] => match times.parse() {
-            Ok(times) if *stream == "listing" => listing::count(case, times),
-            Ok(times) => cases::count(stream, case, times),
-            Err(_) => usage(),
-        },
-        ["streams"] => cases::streams(),
-        ["cases"] => cases::names(),
+    use bench::program;
+    program::asked(|words| match words {
         ["listing"] => listing::time(),
-        _ => usage(),
-    }
-}
-
-#[cfg(have_miralis)]
-fn usage() {
-    eprintln!("usage: bench [count STREAM CASE N | streams | cases | listing]");
-    std::process::exit(2);
+        ["count", "listing", case, times] => listing::count(case, times.parse().unwrap_or_else(|_| program::usage())),
+        words => program::run(words, cases::all()),
+    });
 }

@@ -16,7 +16,7 @@ pub struct Stream {
 }
 
 impl Stream {
-    pub fn len(&self) -> usize {
+    pub fn count(&self) -> usize {
         self.words.iter().map(Vec::len).sum()
     }
 
@@ -31,13 +31,30 @@ impl Stream {
     }
 }
 
+fn is_stack(reading: Reading, word: u64) -> bool {
+    domain::stack_form(reading, word).is_some()
+}
+
+/// The reading of a SYSTEM word, of a load or of a store; other words have none.
+pub fn own_reading(word: u64) -> Option<Reading> {
+    if word & 0x7F == 0x73 {
+        return Some(Reading::System);
+    }
+    [Reading::Load, Reading::Store].into_iter().find(|reading| domain::contains(*reading, word) || is_stack(*reading, word))
+}
+
+/// The words of the image that OPENSBI_ELF names, if it names one.
+pub fn image() -> Option<Vec<u64>> {
+    let file = std::env::var_os("OPENSBI_ELF")?;
+    let elf = std::fs::read(&file).unwrap_or_else(|e| panic!("{}: {e}", file.display()));
+    Some(image::words(&elf).unwrap_or_else(|| panic!("{} has no .text section that can be read", file.display())))
+}
+
 /// The SYSTEM words of the image; its loads and stores; three parts of these, to tell the costs of the kinds apart.
 fn of_image(words: &[u64]) -> Vec<Stream> {
-    let of = |has: &dyn Fn(u64) -> bool| words.iter().copied().filter(|w| has(*w)).collect::<Vec<u64>>();
-    let is_stack = |reading, w| domain::stack_form(reading, w).is_some();
-    let accesses = |reading| of(&|w| domain::contains(reading, w) || is_stack(reading, w));
-    let system = Stream { name: "opensbi-system", words: [of(&|w| w & 0x7F == 0x73), vec![], vec![]] };
-    let memory = Stream { name: "opensbi-memory", words: [vec![], accesses(Reading::Load), accesses(Reading::Store)] };
+    let of = |reading| words.iter().copied().filter(|w| own_reading(*w) == Some(reading)).collect();
+    let system = Stream { name: "opensbi-system", words: [of(Reading::System), vec![], vec![]] };
+    let memory = Stream { name: "opensbi-memory", words: [vec![], of(Reading::Load), of(Reading::Store)] };
     let readable = memory.part("opensbi-readable", domain::contains);
     let compressed = memory.part("opensbi-compressed", |_, w| w & 3 == 0);
     let stack = memory.part("opensbi-stack", is_stack);
@@ -45,12 +62,7 @@ fn of_image(words: &[u64]) -> Vec<Stream> {
 }
 
 pub fn all() -> Vec<Stream> {
-    let mut all = Vec::new();
-    if let Some(file) = std::env::var_os("OPENSBI_ELF") {
-        let elf = std::fs::read(&file).unwrap_or_else(|e| panic!("{}: {e}", file.display()));
-        let words = image::words(&elf).unwrap_or_else(|| panic!("{} has no .text section that can be read", file.display()));
-        all.extend(of_image(&words));
-    }
+    let mut all = image().map_or(vec![], |words| of_image(&words));
     let mut random = Random::new(1);
     // half of the set and clear forms are reads, as most of them are
     let csr = (0..65536).map(|_| {

@@ -28,20 +28,71 @@ pub trait Side {
     }
 }
 
-/// The calls on one build of Miralis's modules. Each build is a crate with types of its own, so the code is written out for each.
+/// The functions that make an instruction word of what a build of Miralis's modules answers: `instruction_words!(BUILD)`. Each build has
+/// types of its own, so the code is written out for each.
+#[macro_export]
+macro_rules! instruction_words {
+    ($build:tt) => {
+        use $build::arch::Csr;
+        use $build::decoder::IllegalInst::{self, *};
+        use $build::decoder::{LoadInstr, StoreInstr};
+
+        /// A SYSTEM instruction with the address of its CSR, or a refusal; for a CSR that is given no address all ones, which is neither.
+        #[inline(always)]
+        pub fn system(inst: IllegalInst, address: impl Fn(Csr) -> Option<usize>) -> u64 {
+            let fence = |code, rs1, rs2| u64::from_le_bytes([4, code, rs1, rs2, 0, 0, 0, 0]);
+            let access = |kind, op, csr, rd, from| match address(csr).map(usize::to_le_bytes) {
+                Some([low, high, ..]) => u64::from_le_bytes([kind, op, low, high, rd, from, 0, 0]),
+                None => u64::MAX,
+            };
+            match inst {
+                Wfi => 1,
+                Mret => 2,
+                Sret => 3,
+                Sfencevma { rs1, rs2 } => fence(0, rs1 as u8, rs2 as u8),
+                Hfencevvma { rs1, rs2 } => fence(1, rs1 as u8, rs2 as u8),
+                Hfencegvma { rs1, rs2 } => fence(2, rs1 as u8, rs2 as u8),
+                Csrrw { csr, rd, rs1 } => access(5, 1, csr, rd as u8, rs1 as u8),
+                Csrrs { csr, rd, rs1 } => access(5, 2, csr, rd as u8, rs1 as u8),
+                Csrrc { csr, rd, rs1 } => access(5, 3, csr, rd as u8, rs1 as u8),
+                Csrrwi { csr, rd, uimm } => access(6, 1, csr, rd as u8, uimm as u8),
+                Csrrsi { csr, rd, uimm } => access(6, 2, csr, rd as u8, uimm as u8),
+                Csrrci { csr, rd, uimm } => access(6, 3, csr, rd as u8, uimm as u8),
+                Unknown => $crate::Reading::System.refused(1),
+                InvalidCsrOp => $crate::Reading::System.refused(2),
+            }
+        }
+
+        #[inline(always)]
+        pub fn load(l: LoadInstr) -> u64 {
+            let [low, high, ..] = l.imm.to_le_bytes();
+            let flags = l.is_compressed as u8 | (l.is_unsigned as u8) << 1;
+            u64::from_le_bytes([7, l.len.to_bytes() as u8, flags, l.rd as u8, l.rs1 as u8, low, high, 0])
+        }
+
+        #[inline(always)]
+        pub fn store(s: StoreInstr) -> u64 {
+            let [low, high, ..] = s.imm.to_le_bytes();
+            u64::from_le_bytes([8, s.len.to_bytes() as u8, s.is_compressed as u8, s.rs1 as u8, s.rs2 as u8, low, high, 0])
+        }
+    };
+}
+
+/// The calls on one build of Miralis's modules.
 #[cfg(have_miralis)]
 macro_rules! side {
     ($(#[$doc:meta])* $side:ident, $name:literal, $module:ident, $build:ident) => {
         $(#[$doc])*
         pub struct $side($build::host::MiralisContext);
 
-        mod $module {
-            use $build::arch::{Csr, Width};
+        pub mod $module {
+            use $build::arch::Width;
             use $build::calls;
-            use $build::decoder::IllegalInst::*;
             use $build::host::MiralisContext;
+            use crate::Profile;
             use crate::sides::Side;
-            use crate::{Profile, Reading};
+
+            instruction_words!($build);
 
             impl Side for super::$side {
                 const NAME: &'static str = $name;
@@ -54,47 +105,19 @@ macro_rules! side {
 
                 #[inline]
                 fn system(&self, raw: u64) -> u64 {
-                    let fence = |code, rs1, rs2| u64::from_le_bytes([4, code, rs1, rs2, 0, 0, 0, 0]);
-                    let access = |kind, op, csr: Csr, rd, from| {
-                        let address = csr.idx();
-                        // the address tells which register it is only where the look-up agrees
-                        if self.0.decode_csr(address) != Some(csr) {
-                            return u64::MAX;
-                        }
-                        let [low, high, ..] = address.to_le_bytes();
-                        u64::from_le_bytes([kind, op, low, high, rd, from, 0, 0])
-                    };
-                    match calls::system(&self.0, raw as usize) {
-                        Wfi => 1,
-                        Mret => 2,
-                        Sret => 3,
-                        Sfencevma { rs1, rs2 } => fence(0, rs1 as u8, rs2 as u8),
-                        Hfencevvma { rs1, rs2 } => fence(1, rs1 as u8, rs2 as u8),
-                        Hfencegvma { rs1, rs2 } => fence(2, rs1 as u8, rs2 as u8),
-                        Csrrw { csr, rd, rs1 } => access(5, 1, csr, rd as u8, rs1 as u8),
-                        Csrrs { csr, rd, rs1 } => access(5, 2, csr, rd as u8, rs1 as u8),
-                        Csrrc { csr, rd, rs1 } => access(5, 3, csr, rd as u8, rs1 as u8),
-                        Csrrwi { csr, rd, uimm } => access(6, 1, csr, rd as u8, uimm as u8),
-                        Csrrsi { csr, rd, uimm } => access(6, 2, csr, rd as u8, uimm as u8),
-                        Csrrci { csr, rd, uimm } => access(6, 3, csr, rd as u8, uimm as u8),
-                        Unknown => Reading::System.refused(1),
-                        InvalidCsrOp => Reading::System.refused(2),
-                    }
+                    // the address tells which register it is only where the look-up agrees
+                    let address = |csr: Csr| Some(csr.idx()).filter(|address| self.0.decode_csr(*address) == Some(csr));
+                    system(calls::system(&self.0, raw as usize), address)
                 }
 
                 #[inline]
                 fn load(&self, raw: u64) -> u64 {
-                    let l = calls::load(&self.0, raw as usize);
-                    let [low, high, ..] = l.imm.to_le_bytes();
-                    let flags = l.is_compressed as u8 | (l.is_unsigned as u8) << 1;
-                    u64::from_le_bytes([7, l.len.to_bytes() as u8, flags, l.rd as u8, l.rs1 as u8, low, high, 0])
+                    load(calls::load(&self.0, raw as usize))
                 }
 
                 #[inline]
                 fn store(&self, raw: u64) -> u64 {
-                    let s = calls::store(&self.0, raw as usize);
-                    let [low, high, ..] = s.imm.to_le_bytes();
-                    u64::from_le_bytes([8, s.len.to_bytes() as u8, s.is_compressed as u8, s.rs1 as u8, s.rs2 as u8, low, high, 0])
+                    store(calls::store(&self.0, raw as usize))
                 }
 
                 fn decode_csr(&self, address: u64) -> Option<(String, u64)> {
@@ -143,12 +166,6 @@ impl Library {
 
     pub fn csr_count(&self) -> u64 {
         matnosoru::abi::csr_count(self.0.flags, self.0.custom)
-    }
-
-    /// The length of the first record of a log, or a number from 2^32 up.
-    #[inline]
-    pub fn read_record(&self, log: &[u8]) -> u64 {
-        matnosoru::abi::read_record(self.0.flags, self.0.custom, log)
     }
 }
 

@@ -25,6 +25,18 @@ mod ffi {
         pub fn matnosoru_write_instruction(flags: u64, custom: u64, instruction_word: u64, out: *mut u8, out_len: usize) -> u64;
         pub fn matnosoru_write_refusal(reading: u64, number: u64, raw: u64, out: *mut u8, out_len: usize) -> u64;
         pub fn matnosoru_write_profile(hart: u64, flags: u64, custom: u64, out: *mut u8, out_len: usize) -> u64;
+        pub fn matnosoru_batch(
+            table: *const u8,
+            table_len: usize,
+            words: *const u64,
+            words_len: usize,
+            harts: *const u8,
+            harts_len: usize,
+            readings: *const u8,
+            readings_len: usize,
+            out: *mut u8,
+            out_len: usize,
+        ) -> u64;
         pub fn matnosoru_read_record(flags: u64, custom: u64, log: *const u8, log_len: usize) -> u64;
         pub fn matnosoru_line(flags: u64, custom: u64, at: u64, log: *const u8, log_len: usize, out: *mut u8, out_len: usize) -> u64;
         pub fn matnosoru_start(state: *mut u8, state_len: usize) -> u64;
@@ -50,6 +62,9 @@ pub const TABLE_LENGTH: usize = 80;
 
 /// The length of a log's state: a table, then the current hart in one byte.
 pub const STATE_LENGTH: usize = 81;
+
+/// The length of a slot: a record, then zeros.
+pub const SLOT_LENGTH: usize = 12;
 
 /// What [`tables_differ`] answers where two tables make the same CSRs available.
 pub const SAME: u64 = 32768;
@@ -144,6 +159,28 @@ pub fn write_refusal(reading: u64, number: u64, raw: u64, out: &mut [u8]) -> u64
 pub fn write_profile(hart: u64, flags: u64, custom: u64, out: &mut [u8]) -> u64 {
     // SAFETY: the pointer and the length are those of one slice, which is borrowed alone.
     unsafe { ffi::matnosoru_write_profile(hart, flags, custom, out.as_mut_ptr(), out.len()) }
+}
+
+/// Writes the log record of each trapped word to its slot of [`SLOT_LENGTH`] bytes, with the harts' profiles in a table of
+/// [`TABLE_LENGTH`]: the low 32 bits of the number of slots, or the refusal.
+#[inline]
+#[must_use]
+pub fn batch(table: &[u8], words: &[u64], harts: &[u8], readings: &[u8], out: &mut [u8]) -> u64 {
+    // SAFETY: each pointer and length are those of one slice, and `out` is borrowed alone.
+    unsafe {
+        ffi::matnosoru_batch(
+            table.as_ptr(),
+            table.len(),
+            words.as_ptr(),
+            words.len(),
+            harts.as_ptr(),
+            harts.len(),
+            readings.as_ptr(),
+            readings.len(),
+            out.as_mut_ptr(),
+            out.len(),
+        )
+    }
 }
 
 /// The length of the first record of a log, or the refusal.

@@ -29,6 +29,17 @@
 //! # Ok::<(), matnosoru::Bad>(())
 //! ```
 //!
+//! The records of many trapped words are written in one call, [`Profile::batch`], each into a slot of twelve bytes:
+//!
+//! ```
+//! use matnosoru::Profile;
+//!
+//! let (words, harts, readings) = ([0x1050_0073, 0x8005_2283], [0, 7], [0, 1]);
+//! let mut slots = [[0xEE; 12]; 2];
+//! assert_eq!(Profile::batch(&[Profile::EMPTY; 8], &words, &harts, &readings, &mut slots), Ok(2));
+//! assert_eq!(slots, [[1, 0, 0, 0, 0, 0, 0, 0, 0, 0, 0, 0], [7, 4, 0, 5, 10, 0x00, 0xF8, 0, 0, 0, 0, 0]]);
+//! ```
+//!
 //! Where the answer is no, it is a [`Refusal`]; nothing here panics, whatever it is given. The lints below hold the code to that:
 //! `cargo clippy` refuses an index, an `unwrap` or a sum that could fail.
 //!
@@ -46,6 +57,7 @@
 const _: () = assert!(usize::BITS == 64, "matnosoru is for machines with 64-bit addresses");
 
 pub mod abi;
+mod batch;
 mod instr;
 mod log;
 mod profile;
@@ -63,7 +75,7 @@ pub use registers::{Csr, Register, csr};
 pub use utils::{Width, calculate_addr, sign_extend};
 
 /// The version of the library that this crate is for: MATNOSORU_VERSION of include/matnosoru.h.
-pub const VERSION: u64 = 2;
+pub const VERSION: u64 = 3;
 
 /// The version of the library that is linked. Where it is not [`VERSION`], archive and crate are of different releases.
 #[must_use]

@@ -71,7 +71,7 @@ pub struct Text {
 
 impl Text {
     /// The most bytes that a line has.
-    pub const LONGEST: usize = 34;
+    pub const LONGEST: usize = 35;
 
     /// The line that a call writes to the start of a buffer, with its answer.
     fn by(write: impl FnOnce(&mut [u8]) -> u64) -> Result<Text, Refusal> {

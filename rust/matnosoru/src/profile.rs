@@ -134,7 +134,7 @@ pub fn first_difference(a: &[Profile; 8], b: &[Profile; 8]) -> Option<Difference
 const ENTRY: usize = abi::TABLE_LENGTH / 8;
 
 /// A table as it crosses.
-fn table(profiles: &[Profile; 8]) -> [u8; abi::TABLE_LENGTH] {
+pub(crate) fn table(profiles: &[Profile; 8]) -> [u8; abi::TABLE_LENGTH] {
     let mut bytes = [0; abi::TABLE_LENGTH];
     for (entry, profile) in bytes.chunks_exact_mut(ENTRY).zip(profiles) {
         let flags = profile.flags().to_le_bytes().into_iter().take(2);

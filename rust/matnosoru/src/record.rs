@@ -13,6 +13,8 @@ pub enum Reading {
     Load = 1,
     /// [`Profile::decode_store`]
     Store = 2,
+    /// None of these: [`Profile::batch`] was given a number that is no reading
+    NoSuch = 3,
 }
 
 /// A record of the trap log. A later log may have further kinds.
@@ -62,7 +64,7 @@ impl Record {
 
     /// The first record of a log, where the library has accepted it with this length.
     pub(crate) fn accepted(log: &[u8], length: usize) -> Result<Record, Refusal> {
-        let mut bytes = [0; 12];
+        let mut bytes = [0; abi::SLOT_LENGTH];
         for (byte, value) in bytes.iter_mut().zip(log.iter().take(length)) {
             *byte = *value;
         }
@@ -70,8 +72,8 @@ impl Record {
         Record::from_bytes(bytes).ok_or(Refusal::RecordField)
     }
 
-    /// The record in bytes that the library has accepted, padded with zeros.
-    fn from_bytes(bytes: [u8; 12]) -> Option<Record> {
+    /// The record in a slot whose bytes the library has accepted.
+    fn from_bytes(bytes: [u8; abi::SLOT_LENGTH]) -> Option<Record> {
         let [kind, b1, b2, b3, b4, b5, b6, b7, b8, b9, b10, _] = bytes;
         match kind {
             1..=8 => Instr::from_word(u64::from_le_bytes([kind, b1, b2, b3, b4, b5, b6, 0])).map(Record::Instr),
@@ -80,6 +82,7 @@ impl Record {
                     0 => Reading::System,
                     1 => Reading::Load,
                     2 => Reading::Store,
+                    3 => Reading::NoSuch,
                     _ => return None,
                 };
                 let raw = u64::from_le_bytes([b3, b4, b5, b6, b7, b8, b9, b10]);
@@ -97,7 +100,7 @@ impl Record {
 impl Profile {
     /// Writes a record to the start of `out` and answers its length, 1 to [`Record::LONGEST`].
     ///
-    /// Refusals: an instruction's own (6 to 10); 13 for a pair of reading and refusal that no reading gives; 15 for a hart above 7;
+    /// Refusals: an instruction's own (6 to 10); 13 for a pair of reading and refusal that no record has; 15 for a hart above 7;
     /// and last 14, for an `out` shorter than the record. `out` is then unchanged.
     pub fn write_record(&self, record: &Record, out: &mut [u8]) -> Result<usize, Refusal> {
         let length = match *record {

@@ -36,6 +36,10 @@ pub enum Refusal {
     OutputShort,
     /// 15: the hart is above 7.
     NoSuchHart,
+    /// 16: the reading is above 2. Only a record has this number.
+    NoSuchReading,
+    /// 17: the lists are not of one length.
+    UnequalLists,
     /// A number that this crate has no name for, as a later library may give.
     Other(u64),
 }
@@ -60,6 +64,8 @@ impl Refusal {
             Refusal::RecordField => 13,
             Refusal::OutputShort => 14,
             Refusal::NoSuchHart => 15,
+            Refusal::NoSuchReading => 16,
+            Refusal::UnequalLists => 17,
             Refusal::Other(number) => number,
         }
     }
@@ -83,6 +89,8 @@ impl Refusal {
             13 => Refusal::RecordField,
             14 => Refusal::OutputShort,
             15 => Refusal::NoSuchHart,
+            16 => Refusal::NoSuchReading,
+            17 => Refusal::UnequalLists,
             number => Refusal::Other(number),
         }
     }
@@ -106,6 +114,8 @@ impl fmt::Display for Refusal {
             Refusal::RecordField => "a field that no writer would write",
             Refusal::OutputShort => "the output is too short",
             Refusal::NoSuchHart => "no such hart",
+            Refusal::NoSuchReading => "no such reading",
+            Refusal::UnequalLists => "the lists are not of one length",
             Refusal::Other(_) => "refused",
         };
         write!(f, "{} ({why})", self.number())

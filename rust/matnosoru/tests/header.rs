@@ -22,6 +22,7 @@ fn versions() {
 fn lengths() {
     assert_eq!(named("MATNOSORU_LONGEST_RECORD"), Record::LONGEST as u64);
     assert_eq!(named("MATNOSORU_LONGEST_LINE"), Text::LONGEST as u64);
+    assert_eq!(named("MATNOSORU_SLOT_LENGTH"), abi::SLOT_LENGTH as u64);
     assert_eq!(named("MATNOSORU_TABLE_LENGTH"), abi::TABLE_LENGTH as u64);
     assert_eq!(named("MATNOSORU_STATE_LENGTH"), abi::STATE_LENGTH as u64);
     assert_eq!(named("MATNOSORU_SAME"), abi::SAME);

@@ -127,9 +127,9 @@ fn longest() {
     assert_eq!(Text::bad(Refusal::Other(255), u64::MAX).unwrap().as_str(), "bad 255 at 18446744073709551615\n");
     assert_eq!(Text::bad(Refusal::Other(0), 0), Err(Refusal::RecordField));
     assert_eq!(Text::bad(Refusal::Other(256), 0), Err(Refusal::RecordField));
-    let mut refused = Log::resumed(State::new(), u64::MAX, &LOG[24..]);
+    let mut refused = Log::resumed(State::new(), u64::MAX, &[9, 3, 16, 0, 0, 0, 0, 0, 0, 0, 0]);
     let line = refused.next().unwrap().unwrap().line;
-    assert_eq!(line.as_str(), "18446744073709551615 09 refused 2\n");
+    assert_eq!(line.as_str(), "18446744073709551615 09 refused 16\n");
     assert_eq!(line.as_bytes().len(), Text::LONGEST);
 }
 
@@ -215,9 +215,10 @@ fn there_and_back() {
         records.push(Record::Instr(Instr::Store(StoreInstr { rs2, rs1, imm, len, is_compressed })));
     }
     for (reading, refusals) in [
-        (Reading::System, &[Refusal::Unknown, Refusal::InvalidCsrOp][..]),
-        (Reading::Load, &[Refusal::NotTheForm, Refusal::ReservedWidth, Refusal::StackForm]),
-        (Reading::Store, &[Refusal::NotTheForm, Refusal::ReservedWidth, Refusal::StackForm]),
+        (Reading::System, &[Refusal::Unknown, Refusal::InvalidCsrOp, Refusal::NoSuchHart][..]),
+        (Reading::Load, &[Refusal::NotTheForm, Refusal::ReservedWidth, Refusal::StackForm, Refusal::NoSuchHart]),
+        (Reading::Store, &[Refusal::NotTheForm, Refusal::ReservedWidth, Refusal::StackForm, Refusal::NoSuchHart]),
+        (Reading::NoSuch, &[Refusal::NoSuchHart, Refusal::NoSuchReading]),
     ] {
         records.extend(refusals.iter().map(|r| Record::Refused { reading, refusal: *r, raw: 0x0123_4567_89AB_CDEF }));
     }

@@ -18,7 +18,7 @@ fn numbers() {
         assert_eq!(Refusal::from_number(number).number(), number);
     }
     assert_eq!(Refusal::Unknown.number(), 1);
-    assert_eq!(Refusal::NoSuchHart.number(), 15);
+    assert_eq!(Refusal::UnequalLists.number(), 17);
     assert_eq!(Refusal::ReadOnlyCsr.to_string(), "8 (the CSR is read-only)");
 }
 
@@ -185,13 +185,6 @@ fn logs() {
     let cycle = [5, 2, 0x00, 0x0C, 5, 0];
     assert_eq!(EMPTY.read_record(&cycle), Err(Refusal::RecordField));
     assert!(Profile::from_flags(1, 0).read_record(&cycle).is_ok());
-    // pairs that no reading gives
-    for (reading, number) in [(Reading::System, 3), (Reading::Load, 2), (Reading::Store, 6), (Reading::System, 0), (Reading::Load, 1 << 40)]
-    {
-        let record = Record::Refused { reading, refusal: Refusal::from_number(number), raw: 0 };
-        assert_eq!(EMPTY.write_record(&record, &mut [0; 16]), Err(Refusal::RecordField), "{record:?}");
-        assert_eq!(EMPTY.write_record(&record, &mut []), Err(Refusal::RecordField), "14 comes last");
-    }
     for hart in [8, 256, usize::MAX] {
         let record = Record::Profile { hart, profile: EMPTY };
         assert_eq!(EMPTY.write_record(&record, &mut [0; 16]), Err(Refusal::NoSuchHart));
@@ -201,4 +194,26 @@ fn logs() {
     let mut out = [0xEE; 16];
     assert_eq!(EMPTY.write_record(&read_only, &mut out), Err(Refusal::ReadOnlyCsr));
     assert_eq!(out, [0xEE; 16], "a refusal leaves the buffer");
+}
+
+/// The pairs of reading and number that a record may have, out of all bytes; any other pair is refused with 13.
+#[test]
+fn pairs() {
+    let write = |reading: u64, number: u64, out: &mut [u8]| abi::answer(abi::write_refusal(reading, number, !0, out));
+    for (reading, number) in (0..=255).flat_map(|reading| (0..=255).map(move |number| (reading, number))) {
+        let is_pair = matches!((reading, number), (0, 1 | 2) | (1 | 2, 3..=5) | (0..=3, 15) | (3, 16));
+        let record = [9, reading, number, 0xFF, 0xFF, 0xFF, 0xFF, 0xFF, 0xFF, 0xFF, 0xFF];
+        let mut out = [0xEE; 11];
+        let written = write(reading.into(), number.into(), &mut out);
+        let read = EMPTY.read_record(&record).map(|(_, length)| length as u64);
+        let (answer, bytes) = if is_pair { (Ok(11), record) } else { (Err(Refusal::RecordField), [0xEE; 11]) };
+        assert_eq!((written, out, read), (answer, bytes, answer), "{reading} {number}");
+        let short = if is_pair { Refusal::OutputShort } else { Refusal::RecordField };
+        assert_eq!(write(reading.into(), number.into(), &mut out[..10]), Err(short), "14 comes last");
+    }
+    for (reading, number) in [(256, 1), (1 << 32, 15), (3 | 1 << 63, 16), (0, 256 + 15), (3, 1 << 40 | 16), (u64::MAX, u64::MAX)] {
+        assert_eq!(write(reading, number, &mut [0; 16]), Err(Refusal::RecordField), "{reading} {number}");
+    }
+    let record = Record::Refused { reading: Reading::NoSuch, refusal: Refusal::UnequalLists, raw: 0 };
+    assert_eq!(EMPTY.write_record(&record, &mut [0; 16]), Err(Refusal::RecordField));
 }

@@ -1,11 +1,12 @@
 //! Writes the list of answers that crates/vectors replays, most of them the Rust's own: `vectors FILE`.
 //!
-//! An entry is 32 bytes: the reading (0 SYSTEM, 1 load, 2 store); the profile's flags; its mask in eight bytes, low first; the raw
-//! word in eight bytes, low first; the log record of the answer in a slot of twelve, zeros after it; two zeros.
+//! An entry is 32 bytes: the reading (0 SYSTEM, 1 load, 2 store); the flags of the hart's profile; its mask in eight bytes, low first;
+//! the raw word in eight bytes, low first; the log record of the answer in a slot of twelve, zeros after it; the hart; a zero.
 //!
 //! The first entries are document 01's own words, with the answers typed in by hand as the document has them. Where the Rust's answer
-//! is the wanted one too, it is held to the typed one. Then come the Rust's own answers. The last entries are words with low two bits
-//! 10, which the Rust does not read: their answers are the fields that the words are made of.
+//! is the wanted one too, it is held to the typed one. Then come the Rust's own answers. After them come words with low two bits
+//! 10, which the Rust does not read: their answers are the fields that the words are made of. All these have the harts 0 to 7 in turn.
+//! The last entries have no such hart or no such reading, and document 02's records for that.
 
 #[cfg(not(have_miralis))]
 fn main() {
@@ -37,7 +38,7 @@ mod run {
     use compare::sides::{Checked, Original, Side};
     use compare::{Profile, domain, refusal};
 
-    /// The list so far. An input is in it once.
+    /// The list so far. An input is in it once, whichever hart below 8 it has.
     #[derive(Default)]
     pub struct List {
         entries: Vec<[u8; 32]>,
@@ -54,16 +55,7 @@ mod run {
         }
 
         fn push(&mut self, reading: Reading, p: Profile, raw: u64, answer: u64) {
-            let mut entry = [0; 32];
-            entry[0] = reading as u8;
-            entry[1] = p.flags as u8;
-            entry[2..10].copy_from_slice(&p.custom.to_le_bytes());
-            entry[10..18].copy_from_slice(&raw.to_le_bytes());
-            entry[18..26].copy_from_slice(&answer.to_le_bytes());
-            if refusal(answer).is_some() {
-                // in the log the raw word follows the number
-                entry[21..29].copy_from_slice(&raw.to_le_bytes());
-            }
+            let entry = entry(reading as u8, p, raw, answer, (self.len() % 8) as u8);
             let mut input = [0; 18];
             input.copy_from_slice(&entry[..18]);
             if self.seen.insert(input) {
@@ -89,6 +81,21 @@ mod run {
         fn asked(&mut self, reading: Reading, p: Profile, raw: u64) {
             self.push(reading, p, raw, ask(reading, p, raw));
         }
+    }
+
+    fn entry(reading: u8, p: Profile, raw: u64, answer: u64, hart: u8) -> [u8; 32] {
+        let mut entry = [0; 32];
+        entry[0] = reading;
+        entry[1] = p.flags as u8;
+        entry[2..10].copy_from_slice(&p.custom.to_le_bytes());
+        entry[10..18].copy_from_slice(&raw.to_le_bytes());
+        entry[18..26].copy_from_slice(&answer.to_le_bytes());
+        if refusal(answer).is_some() {
+            // in the log the raw word follows the number
+            entry[21..29].copy_from_slice(&raw.to_le_bytes());
+        }
+        entry[30] = hart;
+        entry
     }
 
     /// The Rust's answer, which is the same with and without overflow checks.
@@ -378,6 +385,26 @@ mod run {
         }
     }
 
+    /// No such hart, with each reading and with none, and no such reading, whatever the word is.
+    fn spoilt(list: &mut List) {
+        for raw in [0, u64::MAX, 0x1050_0073, 0xF140_22F3, 0x8005_2283, 0xFEB1_3C23, 0x4502, 0xDEAD_BEEF_0000_E002] {
+            let mut add = |hart, reading, [named, number]: [u8; 2]| {
+                let answer = u64::from_le_bytes([0x09, named, number, 0, 0, 0, 0, 0]);
+                list.entries.push(entry(reading, Profile::FULL, raw, answer, hart));
+            };
+            for hart in [8, 9, 15, 128, 255] {
+                for (reading, named) in [(0, 0), (1, 1), (2, 2), (3, 3), (255, 3)] {
+                    add(hart, reading, [named, 15]);
+                }
+            }
+            for hart in 0..8 {
+                for reading in [3, 4, 255] {
+                    add(hart, reading, [3, 16]);
+                }
+            }
+        }
+    }
+
     pub fn list() -> List {
         let mut list = List::default();
         let mut random = Random::new(7);
@@ -385,6 +412,7 @@ mod run {
         system(&mut list, &mut random);
         memory(&mut list, &mut random);
         stack(&mut list, &mut random);
+        spoilt(&mut list);
         list
     }
 }
