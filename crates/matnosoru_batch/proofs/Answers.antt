@@ -4,15 +4,15 @@ use Rattle.harts.specs.declared.Table.{Table}
 use Rattle.harts.specs.Table.{tableOf}
 use Rattle.batch.specs.declared.Batched.{Batched, the-variants.Refused}
 use Rattle.batch.specs.Batch.{batchedDef, leaves, batchedOut}
-use Rattle.matnosoru_batch.specs.Batch.{answerOf, slots-or}
+use Rattle.matnosoru_batch.specs.Batch.{answerOf, slots-or, outputOf}
 
 module _ (table words harts readings out : List ℕ) where
   abbrev answer : Batched
-  answer = answerOf (length table) (length words) (length harts) (length readings) (length out)
+  answer = answerOf table words harts readings out
 
   -- the number of an answer, and the output that it leaves
   abbrev Answered : ℕ → List ℕ → Type 0
-  Answered r after = (r ≡ slots-or answer) × (after ≡ leaves answer (tableOf table) words harts readings out)
+  Answered r after = (r ≡ slots-or answer) × (after ≡ outputOf table words harts readings out)
 
   refused : {n r : ℕ} → answer ≡ Refused n → r ≡ n * 2 ^ 32 → Answered r out
   unfolding leaves

@@ -1,9 +1,6 @@
 // The exported batch: a night's traps in one call. It is thin over `batch`.
 ghost use mathlib.Core.Path.{_≡_};
-ghost use lib.ListN.{length};
-ghost use Rattle.harts.specs.Table.{tableOf};
-ghost use Rattle.batch.specs.Batch.{leaves};
-ghost use Rattle.matnosoru_batch.specs.Batch.{answerOf, slots-or};
+ghost use Rattle.matnosoru_batch.specs.Batch.{answerOf, slots-or, outputOf};
 use batch::Batched;
 
 // Writes a slot of twelve bytes for each entry to the front of a buffer: how many slots, in 32 bits, or the refusal: 17 where the lists are
@@ -16,8 +13,8 @@ pub extern "C" fn matnosoru_batch(
     readings: &[u8],
     out: &mut [u8],
 ) -> u64
-    ensures { λ r. ⌜ r ≡ slots-or (answerOf (length (now (table .entry))) (length (now (words .entry))) (length (now (harts .entry))) (length (now (readings .entry))) (length (now (out .entry)))) ⌝ }
-    ensures { λ _. ⌜ now (out .exit) ≡ leaves (answerOf (length (now (table .entry))) (length (now (words .entry))) (length (now (harts .entry))) (length (now (readings .entry))) (length (now (out .entry)))) (tableOf (now (table .entry))) (now (words .entry)) (now (harts .entry)) (now (readings .entry)) (now (out .entry)) ⌝ }
+    ensures { λ r. ⌜ r ≡ slots-or (answerOf (now (table .entry)) (now (words .entry)) (now (harts .entry)) (now (readings .entry)) (now (out .entry))) ⌝ }
+    ensures { λ _. ⌜ now (out .exit) ≡ outputOf (now (table .entry)) (now (words .entry)) (now (harts .entry)) (now (readings .entry)) (now (out .entry)) ⌝ }
 {
     if words.len() != harts.len() {
         return refusals::refusal(refusals::LIST_LENGTHS);
