@@ -100,12 +100,9 @@ pub fn bits_to_int(raw: usize, start_bit: usize) -> isize
     }
     let value = (raw >> start_bit) % 4096;
 
-    // Check if the most significant bit is set (indicating a negative value)
-    if value < 2048 {
-        value as isize
-    } else {
-        (value as isize) - 4096
-    }
+    // Half a turn puts the codes in the order of the numbers that they mean, from -2048 up, so the sign bit needs no branch
+    let turned = (value + 2048) % 4096;
+    (turned as isize) - 2048
 }
 
 // A signed number taken apart: n is Up(n), and -(m + 1) is Down(m), so that the least isize has its place too.
