@@ -298,6 +298,10 @@ mod run {
                     list.asked(reading, MIXED[random.below(6) as usize], raw | random.next() << 32);
                 }
             }
+            // every immediate of twelve bits: both signs have all their codes
+            for imm in 0..4096 {
+                list.asked(reading, Profile::EMPTY, word(reading, 2, imm, 9, 21));
+            }
             // every immediate and every pair of registers, not all together; then rubbish above bit 15
             for funct3 in halves {
                 let half = |imm: u64, base: u64, other: u64| funct3 << 13 | imm >> 2 << 10 | base << 7 | (imm & 3) << 5 | other << 2;
