@@ -10,7 +10,7 @@ use Rattle.utils.proofs.Signed.{lt-or-le, signed-mag, kept}
 use Rattle.utils.proofs.bits_to_int.Statement.{statement}
 use Rattle.utils.proofs.bits_to_int.Tie as tie
 
--- the code is any remainder of 4096
+-- the code is x % 4096, whatever x is
 less : (x : ℕ) → toZ w64 (x % 4096) -ℤ pos 2048 ≡ signed 2048 ((x + 2048) % 4096)
 less x =
     ap (λ (v : ℤ). v -ℤ pos 2048) (toZ-pos w64 (x % 4096) (omega arith))
@@ -18,6 +18,7 @@ less x =
     (λ l. simp (lt-ltb (x % 4096) 2048 l, le-ltb ((x + 2048) % 4096) 2048 (omega arith)) (ap negsuc (omega arith)))
     (λ l. simp (le-ltb (x % 4096) 2048 l, lt-ltb ((x + 2048) % 4096) 2048 (omega arith)) (ap pos (omega arith)))
 
+-- no turn makes the subtraction overflow: a wrong one is a wrong answer and nothing else
 less-fits : (x : ℕ) → SFits w64 (toZ w64 (x % 4096) -ℤ pos 2048)
 less-fits x = subst (λ (v : ℤ). SFits w64 v) (sym (less x)) (record { sfits = omega (arith, signed-mag 2048 ((x + 2048) % 4096) (omega arith)) })
 
