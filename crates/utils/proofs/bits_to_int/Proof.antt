@@ -1,12 +1,12 @@
 -- `utils::bits_to_int` meets its contract: a code less 2048 is the number that the code half a turn on means, and 64 bits have no field past them.
 -- Assumes nothing.
-use Rattle.utils.proofs.Prelude.{_≡_, sym, ap, _∙_, subst, ℕ, _+_, _%_, arith, ℤ, w64, SFits, toZ, lt-ltb, le-ltb, needs}
+use Rattle.utils.proofs.Prelude.{_≡_, sym, ap, _∙_, subst, ℕ, _+_, _%_, arith, ℤ, w64, SFits, toZ, le-ltb, needs}
 use lib.IntN.{pos, negsuc, _-ℤ_}
 use mir.ValLaws.{toZ-pos}
 use Rattle.utils.specs.Field.{fld}
 use Rattle.utils.specs.Signed.{signed}
 use Rattle.utils.proofs.Digits.{fld-past}
-use Rattle.utils.proofs.Signed.{lt-or-le, signed-mag, kept}
+use Rattle.utils.proofs.Signed.{lt-or-le, signed-low, signed-high, signed-mag, kept, minus-full}
 use Rattle.utils.proofs.bits_to_int.Statement.{statement}
 use Rattle.utils.proofs.bits_to_int.Tie as tie
 
@@ -15,8 +15,8 @@ less : (x : ℕ) → toZ w64 (x % 4096) -ℤ pos 2048 ≡ signed 2048 ((x + 2048
 less x =
     ap (λ (v : ℤ). v -ℤ pos 2048) (toZ-pos w64 (x % 4096) (omega arith))
     ∙ lt-or-le (x % 4096) 2048
-    (λ l. simp (lt-ltb (x % 4096) 2048 l, le-ltb ((x + 2048) % 4096) 2048 (omega arith)) (ap negsuc (omega arith)))
-    (λ l. simp (le-ltb (x % 4096) 2048 l, lt-ltb ((x + 2048) % 4096) 2048 (omega arith)) (ap pos (omega arith)))
+    (λ l. rw (minus-full 2047 (x % 4096) l, signed-high 2048 ((x + 2048) % 4096) (omega arith)) (ap negsuc (omega arith)))
+    (λ l. rw (signed-low 2048 ((x + 2048) % 4096) (omega arith)) (simp (le-ltb (x % 4096) 2048 l) (ap pos (omega arith))))
 
 -- no turn makes the subtraction overflow: a wrong one is a wrong answer and nothing else
 less-fits : (x : ℕ) → SFits w64 (toZ w64 (x % 4096) -ℤ pos 2048)

@@ -298,7 +298,7 @@ mod run {
                     list.asked(reading, MIXED[random.below(6) as usize], raw | random.next() << 32);
                 }
             }
-            // every immediate of twelve bits: both signs have all their codes
+            // every immediate of twelve bits, so every code of either sign
             for imm in 0..4096 {
                 list.asked(reading, Profile::EMPTY, word(reading, 2, imm, 9, 21));
             }
