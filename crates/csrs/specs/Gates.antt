@@ -24,7 +24,7 @@ use Rattle.csrs.specs.declared.Gate.the-variants.{Always, Zicntr, Zihpm,
 use Rattle.csrs.specs.declared.Gated.{Gated}
 use Rattle.csrs.specs.declared.Gated.the-variants.{Holds, Empty}
 use Rattle.csrs.specs.declared.CsrLookup.{CsrLookup}
-use Rattle.csrs.specs.declared.CsrLookup.the-variants.{Found, Missing}
+use Rattle.csrs.specs.declared.CsrLookup.the-variants.{Found, GateOff, NoSuch}
 use Rattle.profiles.specs.Profile.{bitAt}
 
 abbrev pub allowsDef : Profile → Gate → Bool
@@ -94,24 +94,34 @@ rowIdx r = idxDef (r .csr)
 unfoldable pub spotDef : ℕ → Spot Row
 spotDef a = find rowIdx a rows
 
--- the answer there, under a profile
+-- the answer there, under a profile. Document 02, no. 4: "the CSR, or "gate off" for an address that some profile makes available, or "no such" for
+-- one that none does"
 abbrev pub gatedDef : Bool → Csr → CsrLookup
 gatedDef true c = Found c
-gatedDef false c = Missing
+gatedDef false c = GateOff
 
 abbrev pub answer : Profile → Spot Row → CsrLookup
 answer p (is r) = gatedDef (allowsDef p (r .gate)) (r .csr)
-answer p nothing = Missing
+answer p nothing = NoSuch
 
 unfoldable pub decodeCsrDef : Profile → ℕ → CsrLookup
 decodeCsrDef p a = answer p (spotDef a)
 
+-- what is made of the register that is found, or x where none is: all that is asked where no reason is
+abbrev pub ifFound : {X : Type 0} → (Csr → X) → X → CsrLookup → X
+ifFound f x (Found c) = f c
+ifFound f x GateOff = x
+ifFound f x NoSuch = x
+
 abbrev pub isFound : CsrLookup → Bool
-isFound (Found c) = true
-isFound Missing = false
+isFound k = ifFound (λ c. true) false k
 
 unfoldable pub available : Profile → ℕ → Bool
 available p a = isFound (decodeCsrDef p a)
+
+-- some profile makes the address available
+abbrev pub SomeProfile : ℕ → Type 0
+SomeProfile a = (p : Profile) × ((p .custom < 2 ^ 64) × (available p a ≡ true))
 
 -- ---- the parts
 -- the gate of the row at a register's address; where there is no row, a bit that no mask has
@@ -123,13 +133,10 @@ abbrev pub gateDef : Idx → Gate
 gateDef (At a) = gateIn (spotDef a)
 gateDef (Refused n) = MaskBit 64
 
--- what the look-up answers for an address: every profile finds by it what the definition says
-abbrev pub gatedAnswer : Profile → Gated → CsrLookup
-gatedAnswer p (Holds g c) = gatedDef (allowsDef p g) c
-gatedAnswer p Empty = Missing
-
-abbrev pub GatedAt : ℕ → Gated → Type 0
-GatedAt a s = (p : Profile) → p .custom < 2 ^ 64 → gatedAnswer p s ≡ decodeCsrDef p a
+-- what the look-up answers for an address
+abbrev pub gatedOf : Spot Row → Gated
+gatedOf (is r) = Holds (r .gate) (r .csr)
+gatedOf nothing = Empty
 
 -- the registers that have an address and no row
 abbrev pub nevers : List Csr

@@ -3,7 +3,7 @@ ghost use mathlib.Core.Path.{_≡_};
 ghost use Prim.Native.Nat.{ℕ};
 ghost use Rattle.csr_addresses.specs.declared.Idx.the-variants.{At};
 ghost use Rattle.csr_addresses.specs.Address.{idxDef};
-ghost use Rattle.csrs.specs.Gates.{allowsDef, gateDef, GatedAt, decodeCsrDef, available};
+ghost use Rattle.csrs.specs.Gates.{allowsDef, gateDef, spotDef, gatedOf, decodeCsrDef, available};
 ghost use Rattle.csrs.specs.Count.{countDef};
 use csr_addresses::Csr;
 use csr_addresses::address;
@@ -86,7 +86,7 @@ enum Gated {
 // The look-up by address, which may be any number. It takes no profile, so that flags are only read where a gate asks; and
 // `gate_of` has no other caller, so that the compiler merges it into the arms.
 fn gated_at(csr: usize) -> Gated
-    ensures { λ r. ⌜ GatedAt csr r ⌝ }
+    ensures { λ r. ⌜ r ≡ gatedOf (spotDef csr) ⌝ }
 {
     let found = match csr {
         address::MSTATUS => Csr::Mstatus,
@@ -195,13 +195,14 @@ fn gated_at(csr: usize) -> Gated
     Gated::Holds(gate_of(found), found)
 }
 
-// What a CSR address has under a profile.
+// What a CSR address has under a profile: its register, one that only other profiles make available, or one that none does.
 pub enum CsrLookup {
     Found(Csr),
-    Missing,
+    GateOff,
+    NoSuch,
 }
 
-// The register at an address, which may be any number, if the profile makes it available.
+// The register at an address, which may be any number, if the profile makes it available, or why there is none.
 pub fn decode_csr(ctx: Profile, csr: usize) -> CsrLookup
     ensures { λ r. ⌜ r ≡ decodeCsrDef ctx csr ⌝ }
 {
@@ -210,10 +211,10 @@ pub fn decode_csr(ctx: Profile, csr: usize) -> CsrLookup
             if allows(ctx, gate) {
                 CsrLookup::Found(found)
             } else {
-                CsrLookup::Missing
+                CsrLookup::GateOff
             }
         }
-        Gated::Empty => CsrLookup::Missing,
+        Gated::Empty => CsrLookup::NoSuch,
     }
 }
 

@@ -1,4 +1,4 @@
--- The answer for two tables, and a value's sign copied upwards by a width in bytes.
+-- The answers for an address and for two tables, and a value's sign copied upwards by a width in bytes.
 use mathlib.Core.Path.{_≡_}
 use Prim.Native.Nat.{ℕ, _+_, _*_, _^_}
 use mathlib.Core.Bool.{Bool, true, false, _&&_}
@@ -8,10 +8,18 @@ use lib.ListN.{length}
 use Rattle.utils.specs.declared.WidthFrom.{WidthFrom}
 use Rattle.utils.specs.declared.WidthFrom.the-variants.{Is as IsWidth, Invalid}
 use Rattle.utils.specs.Width.{extended, halfOf}
+use Rattle.csrs.specs.declared.CsrLookup.{CsrLookup}
+use Rattle.csrs.specs.declared.CsrLookup.the-variants.{Found, GateOff, NoSuch}
 use Rattle.differences.specs.declared.Difference.{Difference}
 use Rattle.differences.specs.declared.Difference.the-variants.{At, Nowhere}
 use Rattle.harts.specs.Table.{tableOf}
 use Rattle.differences.specs.Difference.{FirstDifference}
+
+-- ---- an address
+abbrev pub lookupCode : CsrLookup → ℕ
+lookupCode (Found c) = 1
+lookupCode GateOff = 2
+lookupCode NoSuch = 3
 
 -- ---- tables
 -- the first difference as hart * 4096 + address, 32768 for none

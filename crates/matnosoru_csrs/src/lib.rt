@@ -4,22 +4,22 @@ ghost use mathlib.Core.Path.{_≡_};
 ghost use mathlib.Core.Bool.{cond};
 ghost use Prim.Native.Nat.{_+_, _*_, _%_, _^_, _<_};
 ghost use Rattle.utils.specs.Width.{widthFrom};
-ghost use Rattle.csrs.specs.Gates.{available};
+ghost use Rattle.csrs.specs.Gates.{decodeCsrDef, available};
 ghost use Rattle.csrs.specs.Count.{countDef};
 ghost use Rattle.abi.specs.Abi.{profile};
-ghost use Rattle.matnosoru_csrs.specs.Csrs.{TablesDiffer, extendedBy};
+ghost use Rattle.matnosoru_csrs.specs.Csrs.{lookupCode, TablesDiffer, extendedBy};
 use csrs::CsrLookup;
 use differences::Difference;
 use utils::Width;
 use utils::WidthFrom;
 
 // The header's MATNOSORU_VERSION.
-const VERSION: u64 = 3;
+const VERSION: u64 = 4;
 
 // The number of the header that the archive fits.
 #[no_mangle]
 pub extern "C" fn matnosoru_version() -> u64
-    ensures { λ r. ⌜ r ≡ 3 ⌝ }
+    ensures { λ r. ⌜ r ≡ 4 ⌝ }
 {
     VERSION
 }
@@ -29,9 +29,22 @@ pub extern "C" fn matnosoru_version() -> u64
 pub extern "C" fn matnosoru_csr(flags: u64, custom: u64, address: u64) -> u64
     ensures { λ r. ⌜ r ≡ cond (available (profile flags custom) address) 1 0 ⌝ }
 {
+    if csrs::is_available(abi::profile_of(flags, custom), address as usize) {
+        1
+    } else {
+        0
+    }
+}
+
+// What an address has: 1 a CSR that is available, 2 one that only other profiles make available, 3 none.
+#[no_mangle]
+pub extern "C" fn matnosoru_csr_lookup(flags: u64, custom: u64, address: u64) -> u64
+    ensures { λ r. ⌜ r ≡ lookupCode (decodeCsrDef (profile flags custom) address) ⌝ }
+{
     match csrs::decode_csr(abi::profile_of(flags, custom), address as usize) {
         CsrLookup::Found(_) => 1,
-        CsrLookup::Missing => 0,
+        CsrLookup::GateOff => 2,
+        CsrLookup::NoSuch => 3,
     }
 }
 

@@ -5,9 +5,9 @@ ghost use lib.ListN.{length};
 ghost use Rattle.octets.specs.Bytes.{leBytes, emitted, emittedOut};
 ghost use Rattle.log_writer.specs.Written.{writtenDef, writtenOut};
 ghost use Rattle.log_kinds.specs.Length.{lengthOf};
-ghost use Rattle.traps.specs.declared.Reading.the-variants.{System, Load, Store};
+ghost use Rattle.traps.specs.declared.Reading.the-variants.{Load, Store};
 ghost use Rattle.traps.specs.Trapped.{trappedDef};
-ghost use Rattle.instruction_word.specs.InstructionWord.{instructionWord};
+ghost use Rattle.instruction_word.specs.InstructionWord.{instructionWord, systemWord};
 ghost use Rattle.instruction_word.specs.Written.{crossed, written};
 ghost use Rattle.abi.specs.Abi.{profile, length-or};
 ghost use Rattle.matnosoru_words.specs.Words.{instructionBytes};
@@ -15,7 +15,7 @@ ghost use Rattle.matnosoru_words.specs.Words.{instructionBytes};
 // The SYSTEM reading of a raw word, as an instruction word.
 #[no_mangle]
 pub extern "C" fn matnosoru_read_system(flags: u64, custom: u64, raw: u64) -> u64
-    ensures { λ r. ⌜ r ≡ instructionWord (profile flags custom) (trappedDef (profile flags custom) System raw) ⌝ }
+    ensures { λ r. ⌜ r ≡ systemWord (profile flags custom) raw ⌝ }
 {
     instruction_word::read_system(abi::profile_of(flags, custom), raw as usize)
 }

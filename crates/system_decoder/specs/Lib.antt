@@ -1,2 +1,3 @@
 pub mod Forms
 pub mod System
+pub mod Reasons

@@ -4,10 +4,9 @@ use Rattle.utils.proofs.Prelude.{_≡_, refl, sym, ap, _∙_, subst, Bool, true
 use Rattle.utils.specs.declared.Code.the-variants.{Is}
 use Rattle.registers.specs.Numbers.{areValid}
 use Rattle.registers.proofs.Numbers.{valid}
-use Rattle.csrs.specs.declared.CsrLookup.{CsrLookup, the-variants.Found, the-variants.Missing}
 use Rattle.profiles.specs.declared.Profile.{Profile}
-use Rattle.csrs.specs.Gates.{decodeCsrDef, isFound, available}
-use Rattle.csrs.proofs.Laws.{found-lt}
+use Rattle.csrs.specs.Gates.{available}
+use Rattle.csrs.proofs.Laws.{available-lt}
 use Rattle.forms.specs.declared.Wrote.the-variants.{Word}
 use Rattle.forms.specs.Layout.{Layout, Operand, imm, rd, rs1, rs2, funct, csr, all}
 use Rattle.forms.specs.Answer.{Answer, value, refusal, numberIn}
@@ -85,7 +84,6 @@ shape-low w s = on (λ (k : Answer Shape). k ≡ value s → Low s) (ltb w (2 ^ 
 
 -- ---- what can be written is as it was, and low, and has a word
 pub checked-is : (p : Profile) (s t : Shape) → checkedDef p s ≡ value t → (s ≡ t) × Low t
-unfolding available
 checked-is p wfi t = λ e. let z : wfi ≡ t = cc in (z, subst Low z tt)
 checked-is p mret t = λ e. let z : mret ≡ t = cc in (z, subst Low z tt)
 checked-is p sret t = λ e. let z : sret ≡ t = cc in (z, subst Low z tt)
@@ -94,12 +92,12 @@ checked-is p (fence f a b) t =
     (λ q e. let z : fence f a b ≡ t = cc in (z, subst Low z (valid a b q))) (λ _ e. no-value 6 t e)
 checked-is p (access o m a d x) t =
     on (λ (k : Answer Shape). k ≡ value t → (access o m a d x ≡ t) × Low t) (areValid d x)
-    (λ q. let l = valid d x q in go (l .0) (l .1) (decodeCsrDef p a) refl (barredDef a (always o) x)) (λ _ e. no-value 6 t e)
+    (λ q. let l = valid d x q in go (l .0) (l .1) (available p a) refl (barredDef a (always o) x)) (λ _ e. no-value 6 t e)
   where
-    go : d ≤ 31 → x ≤ 31 → (k : CsrLookup) → decodeCsrDef p a ≡ k → (b : Bool) → reached (isFound k) b (access o m a d x) ≡ value t → (access o m a d x ≡ t) × Low t
-    go g h (Found c) q true e = no-value 8 t e
-    go g h (Found c) q false e = let z : access o m a d x ≡ t = cc in (z, subst Low z (found-lt p a c q, (g, h)))
-    go g h Missing q b e = no-value 7 t e
+    go : d ≤ 31 → x ≤ 31 → (k : Bool) → available p a ≡ k → (b : Bool) → reached k b (access o m a d x) ≡ value t → (access o m a d x ≡ t) × Low t
+    go g h true q true e = no-value 8 t e
+    go g h true q false e = let z : access o m a d x ≡ t = cc in (z, subst Low z (available-lt p a q, (g, h)))
+    go g h false q b e = no-value 7 t e
 
 -- a shape that is refused with 0 is not refused
 abbrev Numbered : Answer Shape → Type 0

@@ -19,9 +19,7 @@ use Rattle.system_decoder.specs.declared.Shape.{Shape, the-variants.Fence as fe
 use Rattle.system_decoder.specs.System.{operands, operandsOf, funct3, always, barredDef, meaning}
 use Rattle.registers.specs.Numbers.{areValid}
 use Rattle.profiles.specs.declared.Profile.{Profile}
-use Rattle.csr_addresses.specs.declared.Csr.{Csr}
-use Rattle.csrs.specs.declared.CsrLookup.{CsrLookup, the-variants.Found, the-variants.Missing}
-use Rattle.csrs.specs.Gates.{decodeCsrDef, isFound, available}
+use Rattle.csrs.specs.Gates.{available}
 use Rattle.system_encoder.specs.System.{reached, checkedDef}
 
 -- ---- the words
@@ -92,7 +90,7 @@ module _ (a b : ℕ) (la : a ≤ 31) (lb : b ≤ 31) where
   fence-word Vvma = by-layout (fence Vvma a b) (fenceTold 4) (fence-known (fence Vvma a b) 4 refl) hfence-vvma refl refl refl refl refl (fence-masks (funct7 Vvma * 2 ^ 25))
   fence-word Gvma = by-layout (fence Gvma a b) (fenceTold 5) (fence-known (fence Gvma a b) 5 refl) hfence-gvma refl refl refl refl refl (fence-masks (funct7 Gvma * 2 ^ 25))
 
--- ---- 6, 7 and 8 of an access: v is what `are_valid` gave, k `decode_csr`, b `is_barred`
+-- ---- 6, 7 and 8 of an access: v is what `are_valid` gave, k `is_available`, b `is_barred`
 module _ (p : Profile) (o : CsrOp) (a d x : ℕ) {v : Bool} (e : v ≡ areValid d x) where
   asked : (u t b : Bool) → v ≡ u → t ≡ available p a → b ≡ barredDef a (always o) x → (m : Bool)
       → numberIn (cond u (reached t b (access o m a d x)) (refusal 6)) ≡ numberIn (checkedDef p (access o m a d x))
@@ -101,17 +99,13 @@ module _ (p : Profile) (o : CsrOp) (a d x : ℕ) {v : Bool} (e : v ≡ areValid 
   pub past-31 : not v ≡ true → (m : Bool) → 6 ≡ numberIn (checkedDef p (access o m a d x))
   past-31 q = asked false (available p a) (barredDef a (always o) x) (not-true v q) refl refl
 
-  module _ (low : not v ≡ false) {k : CsrLookup} (f : k ≡ decodeCsrDef p a) where
-    there : (l : CsrLookup) → k ≡ l → isFound l ≡ available p a
-    unfolding available
-    there l q = ap isFound (sym q ∙ f)
+  module _ (low : not v ≡ false) {k : Bool} (f : k ≡ available p a) where
+    pub unavailable : not k ≡ true → (m : Bool) → 7 ≡ numberIn (checkedDef p (access o m a d x))
+    unavailable q = asked true false (barredDef a (always o) x) (not-false v low) (sym (not-true k q) ∙ f) refl
 
-    pub unavailable : k ≡ Missing → (m : Bool) → 7 ≡ numberIn (checkedDef p (access o m a d x))
-    unavailable q = asked true false (barredDef a (always o) x) (not-false v low) (there Missing q) refl
-
-    module _ {c : Csr} (found : k ≡ Found c) {w : Bool} (g : w ≡ always o) {b : Bool} (h : b ≡ barredDef a w x) where
+    module _ (there : not k ≡ false) {w : Bool} (g : w ≡ always o) {b : Bool} (h : b ≡ barredDef a w x) where
       is-barred : b ≡ barredDef a (always o) x
       is-barred = h ∙ ap (λ (y : Bool). barredDef a y x) g
 
       pub barring : {u : Bool} → b ≡ u → (m : Bool) → numberIn (reached true u (access o m a d x)) ≡ numberIn (checkedDef p (access o m a d x))
-      barring {u} q = asked true true u (not-false v low) (there (Found c) found) (sym q ∙ is-barred)
+      barring {u} q = asked true true u (not-false v low) (sym (not-false k there) ∙ f) (sym q ∙ is-barred)

@@ -9,7 +9,6 @@ ghost use Rattle.forms.specs.Meaning.{writeOf};
 ghost use Rattle.system_decoder.specs.Forms.{funct7, system};
 ghost use Rattle.system_decoder.specs.System.{Low, funct3, meaning};
 ghost use Rattle.system_encoder.specs.System.{checkedDef, writeShape};
-use csrs::CsrLookup;
 use forms::Wrote;
 use profiles::Profile;
 use system_decoder::CsrOp;
@@ -58,11 +57,11 @@ fn access_refusal(ctx: Profile, op: CsrOp, csr: usize, rd: usize, src: usize) ->
     if !registers::are_valid(rd, src) {
         return refusals::REGISTER;
     }
-    // The readings ask `is_available`. With `decode_csr` here the look-up under both has two callers, so the compiler keeps it as one
-    // function, and the readings merge the rest (docs/SPEED.md).
-    let CsrLookup::Found(_) = csrs::decode_csr(ctx, csr) else {
+    // The readings ask `decode_csr`, for the reason. With `is_available` here the look-up under both has two callers, so the compiler
+    // keeps it as one function, and the readings merge the rest (docs/SPEED.md).
+    if !csrs::is_available(ctx, csr) {
         return refusals::CSR;
-    };
+    }
     if system_decoder::is_barred(csr, system_decoder::always_writes(op), src) {
         return refusals::READ_ONLY;
     }

@@ -1,4 +1,5 @@
 pub mod Legal
 pub mod System
-pub mod Sentence
 pub mod Numbers
+pub mod Sentence
+pub mod Reasons

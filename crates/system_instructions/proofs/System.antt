@@ -1,15 +1,15 @@
 -- The demand on reading and writing (forms' `Demand3`), for the SYSTEM reading: over `illegalDef` and `encodeIllegalDef`, any profile, and any
 -- instruction value, nonsense included. The table gives it for shapes; what a profile makes of a shape goes both ways. Assumes nothing.
-use Rattle.utils.proofs.Prelude.{_≡_, refl, sym, ap, _∙_, subst, Bool, true, false, cond, ℕ, _^_, _<_, arith}
+use Rattle.utils.proofs.Prelude.{_≡_, refl, sym, ap, _∙_, subst, ⊎-elim, Bool, true, false, cond, ℕ, _^_, _<_, arith}
 use Rattle.csr_addresses.specs.declared.Csr.{Csr}
 use Rattle.csr_addresses.specs.declared.Idx.{Idx, the-variants.At, the-variants.Refused as Nowhere}
 use Rattle.csr_addresses.specs.Address.{idxDef}
 use Rattle.registers.specs.Numbers.{areValid}
 use Rattle.registers.proofs.Numbers.{are-valid}
-use Rattle.csrs.specs.declared.CsrLookup.{CsrLookup, the-variants.Found, the-variants.Missing}
+use Rattle.csrs.specs.declared.CsrLookup.{the-variants.Found}
 use Rattle.profiles.specs.declared.Profile.{Profile}
-use Rattle.csrs.specs.Gates.{decodeCsrDef, isFound, available}
-use Rattle.csrs.proofs.Laws.{found-idx, found-lt, own}
+use Rattle.csrs.specs.Gates.{decodeCsrDef, available}
+use Rattle.csrs.proofs.Laws.{found-idx, found-lt, own, available-found, found-available, none-found, look}
 use Rattle.forms.specs.declared.Wrote.the-variants.{Word}
 use Rattle.forms.specs.Layout.{csr}
 use Rattle.forms.specs.Answer.{Answer, value, refusal}
@@ -43,12 +43,16 @@ invalid-no : {X : Type 0} {i : IllegalInst} → InvalidCsrOp ≡ Inst i → X
 invalid-no e = absurd (let z : _≡_ {A = ℕ} 0 1 = cc in omega arith)
 
 pub legal : (p : Profile) (o : CsrOp) (m : Bool) (a d x : ℕ) (i : IllegalInst) → instAt p (access o m a d x) ≡ Inst i → Legal p o m a d x i
-legal p o m a d x i = go (barredDef a (always o) x) refl (decodeCsrDef p a) refl
+legal p o m a d x i = go (barredDef a (always o) x) refl
   where
-    go : (b : Bool) → barredDef a (always o) x ≡ b → (k : CsrLookup) → decodeCsrDef p a ≡ k → cond b InvalidCsrOp (foundDef k o m d x) ≡ Inst i → Legal p o m a d x i
-    go true q k r e = invalid-no e
-    go false q (Found c) r e = record { csr = c; free = q; at = r; is = (cc) }
-    go false q Missing r e = invalid-no e
+    go : (b : Bool) → barredDef a (always o) x ≡ b → cond b InvalidCsrOp (foundDef (decodeCsrDef p a) o m d x) ≡ Inst i → Legal p o m a d x i
+    go true q e = invalid-no e
+    go false q e =
+        ⊎-elim (λ t. record { csr = t .0; free = q; at = t .1; is = made (t .0) (sym (ap (λ k. foundDef k o m d x) (t .1)) ∙ e) })
+        (λ n. invalid-no (sym (none-found (λ c. Inst (instOf o m c d x)) InvalidCsrOp p a n) ∙ e)) (look p a)
+
+    made : (c : Csr) → Inst (instOf o m c d x) ≡ Inst i → instOf o m c d x ≡ i
+    made c e = cc
 
 pub own-fence : (f : Fence) (a b : ℕ) → ownShape (fenceOf f a b) ≡ fence f a b
 own-fence Vma a b = refl
@@ -68,7 +72,6 @@ pub own-found : (p : Profile) (o : CsrOp) (m : Bool) (a d x : ℕ) (c : Csr) →
 own-found p o m a d x c e = own-access o m c d x ∙ ap (λ (y : Idx). access o m (placeOf y) d x) (found-idx p a c e)
 
 pub inst-back : (p : Profile) (s : Shape) (i : IllegalInst) → Low s → instAt p s ≡ Inst i → shapeFor p i ≡ value s
-unfolding available
 inst-back p wfi i l e = let z : Wfi ≡ i = cc in ap (shapeFor p) (sym z)
 inst-back p mret i l e = let z : Mret ≡ i = cc in ap (shapeFor p) (sym z)
 inst-back p sret i l e = let z : Sret ≡ i = cc in ap (shapeFor p) (sym z)
@@ -79,7 +82,7 @@ inst-back p (access o m a d x) i l e =
     let t = legal p o m a d x i e in
     ap (shapeFor p) (sym (t .is)) ∙ ap (checkedDef p) (own-found p o m a d x (t .csr) (t .at))
     ∙ ap (λ (v : Bool). cond v (reached (available p a) (barredDef a (always o) x) (access o m a d x)) (refusal 6)) (are-valid d x (l .1 .0) (l .1 .1))
-    ∙ (λ j. reached (isFound (t .at j)) (t .free j) (access o m a d x))
+    ∙ (λ j. reached (found-available p a (t .at) j) (t .free j) (access o m a d x))
 
 module _ (p : Profile) where
   abbrev Reads : IllegalInst → Answer Shape → Type 0
@@ -90,22 +93,22 @@ module _ (p : Profile) where
   fence-reads f a b = on (Reads (fenceOf f a b)) (areValid a b) (λ _. refl) (λ _. tt)
 
   access-reads : (o : CsrOp) (m : Bool) (c : Csr) (d x : ℕ) → Reads (instOf o m c d x) (checkedDef p (accessTo o m c d x))
-  unfolding available
   access-reads o m c d x = on Read (areValid d x) (λ _. place (idxDef c) refl) (λ _. tt)
     where
       Read : Answer Shape → Type 0
       Read = Reads (instOf o m c d x)
 
       -- what is found there is the register, if anything is
-      look : (a : ℕ) → ((f : Csr) → decodeCsrDef p a ≡ Found f → f ≡ c) → (k : CsrLookup) → decodeCsrDef p a ≡ k → Read (reached (isFound k) (barredDef a (always o) x) (access o m a d x))
-      look a e (Found f) q =
-          on Read (barredDef a (always o) x) (λ _. tt)
-          (λ b. (λ j. cond (b j) InvalidCsrOp (foundDef (q j) o m d x)) ∙ ap (λ (y : Csr). Inst (instOf o m y d x)) (e f q))
-      look a e Missing q = tt
+      there : (a : ℕ) → ((f : Csr) → decodeCsrDef p a ≡ Found f → f ≡ c) → Read (reached (available p a) (barredDef a (always o) x) (access o m a d x))
+      there a e =
+          on Read (available p a) (λ t. on Read (barredDef a (always o) x) (λ _. tt) (λ b. found (available-found p a (rw t tt)) b)) (λ _. tt)
+        where
+          found : ((f : Csr) × (decodeCsrDef p a ≡ Found f)) → barredDef a (always o) x ≡ false → Read (value (access o m a d x))
+          found w b = (λ j. cond (b j) InvalidCsrOp (foundDef (w .1 j) o m d x)) ∙ ap (λ (y : Csr). Inst (instOf o m y d x)) (e (w .0) (w .1))
 
-      place : (i : Idx) → idxDef c ≡ i → Read (reached (isFound (decodeCsrDef p (placeOf i))) (barredDef (placeOf i) (always o) x) (access o m (placeOf i) d x))
-      place (At a) e = look a (λ f q. own p a c f e q) (decodeCsrDef p a) refl
-      place (Nowhere n) e = look (2 ^ 12) (λ f q. absurd (omega (arith, found-lt p (2 ^ 12) f q))) (decodeCsrDef p (2 ^ 12)) refl
+      place : (i : Idx) → idxDef c ≡ i → Read (reached (available p (placeOf i)) (barredDef (placeOf i) (always o) x) (access o m (placeOf i) d x))
+      place (At a) e = there a (λ f q. own p a c f e q)
+      place (Nowhere n) e = there (2 ^ 12) (λ f q. absurd (omega (arith, found-lt p (2 ^ 12) f q)))
 
   reads : (i : IllegalInst) → Reads i (shapeFor p i)
   reads Wfi = refl

@@ -8,8 +8,7 @@ use Rattle.csr_addresses.specs.declared.Idx.the-variants.{At, Refused as Nowher
 use Rattle.csr_addresses.specs.Address.{idxDef}
 use Rattle.registers.specs.declared.Register.{Register}
 use Rattle.csrs.specs.declared.CsrLookup.{CsrLookup}
-use Rattle.csrs.specs.declared.CsrLookup.the-variants.{Found, Missing}
-use Rattle.csrs.specs.Gates.{decodeCsrDef}
+use Rattle.csrs.specs.Gates.{decodeCsrDef, ifFound}
 use Rattle.profiles.specs.declared.Profile.{Profile}
 use Rattle.forms.specs.declared.Wrote.{Wrote}
 use Rattle.forms.specs.Answer.{Answer, value, refusal}
@@ -50,8 +49,7 @@ fenceOf Vvma a b = Hfencevvma (register a) (register b)
 fenceOf Gvma a b = Hfencegvma (register a) (register b)
 
 abbrev pub foundDef : CsrLookup → CsrOp → Bool → ℕ → ℕ → IllegalRead
-foundDef (Found c) o m d x = Inst (instOf o m c d x)
-foundDef Missing o m d x = InvalidCsrOp
+foundDef k o m d x = ifFound (λ c. Inst (instOf o m c d x)) InvalidCsrOp k
 
 abbrev pub instAt : Profile → Shape → IllegalRead
 instAt p wfi = Inst Wfi

@@ -13,26 +13,26 @@ access-refusal-spec =
     let v = c .before in
     let a = v .before .args in
     past-31 (a .ctx) (a .op) (a .csr) (a .rd) (a .src) (v .are-valid .ensures) (c .if1 .taken))
-    (λ c κs. search needs) (λ c. search needs) (λ c. search needs)
+    (λ c κs. search needs)
     (λ c.
-    let k = c .before .before in
+    let k = c .before in
     let v = k .before .before in
     let a = v .before .args in
-    unavailable (a .ctx) (a .op) (a .csr) (a .rd) (a .src) (v .are-valid .ensures) (k .before .if1 .left) (k .decode-csr .ensures) (c .enum-told2 .given .1))
+    unavailable (a .ctx) (a .op) (a .csr) (a .rd) (a .src) (v .are-valid .ensures) (k .before .if1 .left) (k .is-available .ensures) (c .if2 .taken))
     (λ c κs. search needs) (λ c κs. search needs)
     (λ c.
     let b = c .before in
     let t = b .before .before in
-    let k = t .before .before in
+    let k = t .before in
     let v = k .before .before in
     let a = v .before .args in
-    barring (a .ctx) (a .op) (a .csr) (a .rd) (a .src) (v .are-valid .ensures) (k .before .if1 .left) (k .decode-csr .ensures) (t .enum-told .given .1)
-    (b .before .always-writes .ensures) (b .is-barred .ensures) (c .if2 .taken))
+    barring (a .ctx) (a .op) (a .csr) (a .rd) (a .src) (v .are-valid .ensures) (k .before .if1 .left) (k .is-available .ensures) (t .if2 .left)
+    (b .before .always-writes .ensures) (b .is-barred .ensures) (c .if3 .taken))
     (λ c.
     let b = c .before in
     let t = b .before .before in
-    let k = t .before .before in
+    let k = t .before in
     let v = k .before .before in
     let a = v .before .args in
-    barring (a .ctx) (a .op) (a .csr) (a .rd) (a .src) (v .are-valid .ensures) (k .before .if1 .left) (k .decode-csr .ensures) (t .enum-told .given .1)
-    (b .before .always-writes .ensures) (b .is-barred .ensures) (c .if2 .left)))
+    barring (a .ctx) (a .op) (a .csr) (a .rd) (a .src) (v .are-valid .ensures) (k .before .if1 .left) (k .is-available .ensures) (t .if2 .left)
+    (b .before .always-writes .ensures) (b .is-barred .ensures) (c .if3 .left)))

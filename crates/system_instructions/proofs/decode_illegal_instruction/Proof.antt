@@ -1,13 +1,13 @@
 -- `system_instructions::decode_illegal_instruction` meets its contract: each arm knows the shape. Assumes nothing.
 use Rattle.utils.proofs.Prelude.{sym, ap, _∙_, needs}
 use Rattle.system_decoder.specs.System.{shapeIn}
-use Rattle.system_instructions.specs.Instruction.{readShape, illegalDef}
+use Rattle.system_instructions.specs.Reasons.{explainedShape, explainedDef}
 use Rattle.system_decoder.specs.declared.Shaped.{Shaped}
 use Rattle.system_instructions.proofs.decode_illegal_instruction.Statement.{statement}
 use Rattle.system_instructions.proofs.decode_illegal_instruction.Tie as tie
 
 pub decode-illegal-instruction-spec : {M : Type 1} → statement M
-unfolding illegalDef
+unfolding explainedDef
 decode-illegal-instruction-spec =
     tie.close
     (tie.spec
@@ -15,8 +15,8 @@ decode-illegal-instruction-spec =
     (λ c.
     let s = c .before .before .before .before in
     let p = s .before .args .ctx in
-    c .instruction-of .ensures ∙ ap (λ (k : Shaped). readShape p (shapeIn k)) (sym (c .before .before .shape .given .1)) ∙ ap (readShape p) (s .shape-at .ensures .0))
+    c .instruction-of .ensures ∙ ap (λ (k : Shaped). explainedShape p (shapeIn k)) (sym (c .before .before .shape .given .1)) ∙ ap (explainedShape p) (s .shape-at .ensures .0))
     (λ c.
     let s = c .before .before in
     let p = s .before .args .ctx in
-    ap (λ (k : Shaped). readShape p (shapeIn k)) (sym (c .enum-told .given .1)) ∙ ap (readShape p) (s .shape-at .ensures .0)))
+    ap (λ (k : Shaped). explainedShape p (shapeIn k)) (sym (c .enum-told .given .1)) ∙ ap (explainedShape p) (s .shape-at .ensures .0)))
