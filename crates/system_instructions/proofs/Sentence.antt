@@ -28,12 +28,15 @@ written Set k x e q = ⊎-elim (λ z. absurd (omega arith)) (λ n. ap not (ne-eq
 written Clear k x e q = ⊎-elim (λ z. absurd (omega arith)) (λ n. ap not (ne-eqb x 0 n)) q
 
 -- 2 is the number exactly where the register is not available or the access is barred
-has-grounds : (b t : Bool) → cond (not b && t) 0 2 ≡ 2 → (t ≡ false) ⊎ (b ≡ true)
+abbrev number : Bool → Bool → ℕ
+number b t = cond (not b && t) 0 2
+
+has-grounds : (b t : Bool) → number b t ≡ 2 → (t ≡ false) ⊎ (b ≡ true)
 has-grounds true t e = inr refl
 has-grounds false true e = absurd (omega arith)
 has-grounds false false e = inl refl
 
-is-refused : (b t : Bool) → (t ≡ false) ⊎ (b ≡ true) → cond (not b && t) 0 2 ≡ 2
+is-refused : (b t : Bool) → (t ≡ false) ⊎ (b ≡ true) → number b t ≡ 2
 is-refused true t e = refl
 is-refused false true e = ⊎-elim (λ q. absurd (false≢true (sym q))) (λ q. absurd (false≢true q)) e
 is-refused false false e = refl
@@ -61,7 +64,7 @@ module _ (w : ℕ) (f : CsrForm w) where
   )
 
 module _ (p : Profile) (w : ℕ) (f : CsrForm w) where
-  is : numberOf (illegalDef p w) ≡ cond (not (test w f) && available p (address w)) 0 2
+  is : numberOf (illegalDef p w) ≡ number (test w f) (available p (address w))
   is = with-shape p w _ (csr-shape w f)
 
   -- a word in CSR form is refused as InvalidCsrOp exactly when its address names no register available under the profile, or it would write a

@@ -45,14 +45,14 @@ invalid-no e = absurd (let z : _≡_ {A = ℕ} 0 1 = cc in omega arith)
 pub legal : (p : Profile) (o : CsrOp) (m : Bool) (a d x : ℕ) (i : IllegalInst) → instAt p (access o m a d x) ≡ Inst i → Legal p o m a d x i
 legal p o m a d x i = go (barredDef a (always o) x) refl
   where
+    made : (c : Csr) → Inst (instOf o m c d x) ≡ Inst i → instOf o m c d x ≡ i
+    made c e = cc
+
     go : (b : Bool) → barredDef a (always o) x ≡ b → cond b InvalidCsrOp (foundDef (decodeCsrDef p a) o m d x) ≡ Inst i → Legal p o m a d x i
     go true q e = invalid-no e
     go false q e =
         ⊎-elim (λ t. record { csr = t .0; free = q; at = t .1; is = made (t .0) (sym (ap (λ k. foundDef k o m d x) (t .1)) ∙ e) })
         (λ n. invalid-no (sym (none-found (λ c. Inst (instOf o m c d x)) InvalidCsrOp p a n) ∙ e)) (look p a)
-
-    made : (c : Csr) → Inst (instOf o m c d x) ≡ Inst i → instOf o m c d x ≡ i
-    made c e = cc
 
 pub own-fence : (f : Fence) (a b : ℕ) → ownShape (fenceOf f a b) ≡ fence f a b
 own-fence Vma a b = refl

@@ -26,10 +26,11 @@ decode-csr-access-spec =
     (tie.spec
     (λ c κs. search needs) (λ c κs. search needs)
     (λ c. answer (c .before) (c .if1 .taken) refl)
-    (λ c κs. search needs) (λ c. search needs) (λ c. search needs) (λ c. search needs)
+    (λ c κs. search needs) (λ c. search needs) (λ c. search needs)
     (λ c.
     let l = c .before .before in
     answer (l .before .before) (l .before .if1 .left) (sym (c .enum-told .given .1) ∙ l .decode-csr .ensures))
+    (λ c. search needs)
     (λ c.
     let l = c .before .before in
     answer (l .before .before) (l .before .if1 .left) (sym (c .enum-told2 .given .1) ∙ l .decode-csr .ensures))
