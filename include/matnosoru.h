@@ -12,8 +12,8 @@
  * MATNOSORU_KIND and the table below it).
  *
  * A call says no in one of two ways. The three readings answer an instruction word, and a refusal is a word of kind 9
- * (MATNOSORU_READ_REFUSAL). Every other answer that may be a refusal is its number times 2^32 for one, and below 2^32 otherwise
- * (MATNOSORU_REFUSAL).
+ * (MATNOSORU_READ_REFUSAL; MATNOSORU_REASON says why a CSR was refused). Every other answer that may be a refusal is its number times
+ * 2^32 for one, and below 2^32 otherwise (MATNOSORU_REFUSAL).
  *
  * This lists a whole log, line by line:
  *
@@ -55,7 +55,7 @@ extern "C" {
 
 /* The number of this header. It is raised when an answer, a length or a function here changes. An archive fits where
  * matnosoru_version() answers the same. */
-#define MATNOSORU_VERSION 3
+#define MATNOSORU_VERSION 4
 
 /* The most bytes that a record has. */
 #define MATNOSORU_LONGEST_RECORD 11
@@ -77,6 +77,11 @@ extern "C" {
 /* The refusal's number in the answer of a reading; 0 where the answer is an instruction. (It uses its argument twice.) */
 #define MATNOSORU_READ_REFUSAL(word) (MATNOSORU_KIND(word) == 9 ? (uint64_t)(word) >> 16 & 0xFF : (uint64_t)0)
 
+/* The reason's letter (enum matnosoru_reason) in the answer of a reading; 0 where there is none: only MATNOSORU_INVALID_CSR_OP has
+ * one. A log keeps the number and no reason. The reason of a record is had by reading its raw word again, under the profile of its
+ * hart. (It uses its argument twice.) */
+#define MATNOSORU_REASON(word) (MATNOSORU_KIND(word) == 9 ? (uint64_t)(word) >> 24 & 0xFF : (uint64_t)0)
+
 /* The two lengths in an answer of matnosoru_line and matnosoru_next_line that is no refusal: the record's and the line's. */
 #define MATNOSORU_RECORD_PART(answer) ((uint64_t)(answer) & 0xFFFF)
 #define MATNOSORU_LINE_PART(answer) ((uint64_t)(answer) >> 16 & 0xFFFF)
@@ -89,14 +94,15 @@ extern "C" {
  *   6        the same with an immediate in place of rs1
  *   7        load: width in bytes, flags (1 compressed, 2 unsigned), rd, rs1, immediate in two bytes (two's complement, low first)
  *   8        store: width in bytes, flags (1 compressed), rs1, rs2, immediate in two bytes
- *   9        no instruction, the word is refused: reading (0 SYSTEM, 1 load, 2 store, 3 none of these), number
+ *   9        no instruction, the word is refused: reading (0 SYSTEM, 1 load, 2 store, 3 none of these), number, and with number 2
+ *            the reason's letter
  */
 #define MATNOSORU_KIND(word) ((uint64_t)(word) & 0xFF)
 
 /* Refusals. */
 enum matnosoru_refusal {
     MATNOSORU_UNKNOWN = 1,        /* SYSTEM reading: no such instruction */
-    MATNOSORU_INVALID_CSR_OP = 2, /* SYSTEM reading: the CSR is not available, or is read-only and written */
+    MATNOSORU_INVALID_CSR_OP = 2, /* SYSTEM reading: the CSR is not available, or is read-only and written (enum matnosoru_reason) */
     MATNOSORU_NOT_THE_FORM = 3,   /* load or store reading: not such a form */
     MATNOSORU_WIDTH = 4,          /* load funct3 7, store funct3 4 to 7 */
     MATNOSORU_STACK_FORM = 5,     /* load or store reading: low two bits 10, and no stack-based form of the reading */
@@ -114,10 +120,25 @@ enum matnosoru_refusal {
     MATNOSORU_LIST_LENGTHS = 17   /* the lists are not of one length */
 };
 
+/* Why the SYSTEM reading refuses with MATNOSORU_INVALID_CSR_OP. The first is given wherever it holds, also where there is no CSR. */
+enum matnosoru_reason {
+    MATNOSORU_REASON_READ_ONLY = 'a', /* the access writes, and the address is a read-only one: its bits 11 and 10 are both one */
+    MATNOSORU_REASON_GATE_OFF = 'b',  /* some profile makes the CSR available, and this one does not */
+    MATNOSORU_REASON_NO_SUCH = 'c'    /* no profile makes a CSR available at this address */
+};
+
+/* What matnosoru_csr_lookup answers. */
+enum matnosoru_lookup {
+    MATNOSORU_AVAILABLE = 1, /* this profile makes the CSR available */
+    MATNOSORU_GATE_OFF = 2,  /* another profile does, and this one does not */
+    MATNOSORU_NO_SUCH = 3    /* no profile does */
+};
+
 /* The MATNOSORU_VERSION of the header that the archive fits. */
 uint64_t matnosoru_version(void);
 
-/* The SYSTEM reading of a raw word: its instruction word of kind 1 to 6, or the refusal 1 or 2 as a word of kind 9. */
+/* The SYSTEM reading of a raw word: its instruction word of kind 1 to 6, or the refusal 1 or 2 as a word of kind 9. With 2 the word
+ * has the reason's letter (MATNOSORU_REASON). */
 uint64_t matnosoru_read_system(uint64_t flags, uint64_t custom, uint64_t raw);
 
 /* The load reading: an instruction word of kind 7, or the refusal 3, 4 or 5 as a word of kind 9. */
@@ -131,6 +152,10 @@ uint64_t matnosoru_write(uint64_t flags, uint64_t custom, uint64_t instruction_w
 
 /* Whether the CSR at an address is available: 1 or 0. The address may be any number. */
 uint64_t matnosoru_csr(uint64_t flags, uint64_t custom, uint64_t address);
+
+/* What is at a CSR address (enum matnosoru_lookup): 1 where the CSR is available, 2 where it is not and some other profile makes it
+ * available, 3 where none does. The address may be any number; above 4095 the answer is 3. */
+uint64_t matnosoru_csr_lookup(uint64_t flags, uint64_t custom, uint64_t address);
 
 /* How many CSRs are available. */
 uint64_t matnosoru_csr_count(uint64_t flags, uint64_t custom);

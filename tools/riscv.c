@@ -9,7 +9,7 @@
 /* the function `list` in the comment at the top of matnosoru.h */
 #include "example.h"
 
-enum { ROUNDS = 300000, BLOCK = 344, ROOM = 64 };
+enum { ROUNDS = 300000, BLOCK = 360, ROOM = 64 };
 
 #if defined(__x86_64__)
 enum { WRITE = 1, EXIT = 60 };
@@ -103,17 +103,17 @@ static void hold(unsigned line, uint64_t answer, uint64_t wanted) {
 #define HOLD(answer, wanted) hold(__LINE__, answer, wanted)
 #define REFUSED(number) ((uint64_t)(number) << 32)
 
-/* Document 01's words at the edges and its further ones, then words with low two bits 10, under the empty profile: the reading, the
- * word, and the instruction word. */
+/* Document 01's words at the edges and its further ones, then words with low two bits 10, then words whose CSR is refused, under the
+ * empty profile: the reading, the word, and the instruction word. */
 static const struct {
     uint64_t reading, raw, answer;
 } WORDS[] = {
     {0, 0xF14022F3, 0x00050F140205}, /* set, mhartid, rd 5, rs1 0 */
-    {0, 0xF1401073, 0x020009},       /* 2: read-only written */
-    {0, 0xF140A2F3, 0x020009},
+    {0, 0xF1401073, 0x61020009},     /* 2 a: read-only written */
+    {0, 0xF140A2F3, 0x61020009},
     {0, 0x3A031073, 0x060003A00105}, /* write, pmpcfg 0, rs1 6 */
-    {0, 0x3A131073, 0x020009},
-    {0, 0x3F031073, 0x020009},
+    {0, 0x3A131073, 0x63020009},     /* 2 c: no such CSR */
+    {0, 0x3F031073, 0x63020009},
     {0, 0x3EF31073, 0x060003EF0105}, /* write, pmpaddr 63 */
     {0, 0x12B50073, 0x0B0A0004},     /* sfence.vma 10, 11 */
     {0, 0x12B500F3, 0x010009},
@@ -140,6 +140,14 @@ static const struct {
     {2, 0x4502, 0x050209},
     {1, 0x9002, 0x050109},
     {2, 0x9002, 0x050209},
+    {0, 0xFFF09073, 0x61020009}, /* 2 a, also where there is no CSR: csrrw x0,0xFFF,x1 and csrrw x0,0xC03,x1 */
+    {0, 0xC0309073, 0x61020009},
+    {0, 0xFFF020F3, 0x63020009}, /* 2 c: csrrs x1,0xFFF,x0; tdata1; the same with a bit above 31 */
+    {0, 0x7A1020F3, 0x63020009},
+    {0, 0x17A1020F3, 0x63020009},
+    {0, 0x7C0020F3, 0x62020009}, /* 2 b: the first custom CSR, the last one, seed */
+    {0, 0x7FF020F3, 0x62020009},
+    {0, 0x015090F3, 0x62020009},
 };
 
 static uint64_t reading(uint64_t which, uint64_t flags, uint64_t custom, uint64_t raw) {
@@ -151,9 +159,36 @@ static void hold_words(void) {
     for (size_t k = 0; k < sizeof WORDS / sizeof WORDS[0]; k++) {
         uint64_t answer = reading(WORDS[k].reading, 0, 0, WORDS[k].raw);
         HOLD(answer, WORDS[k].answer);
-        HOLD(MATNOSORU_READ_REFUSAL(answer), (answer & 0xFF) == 9 ? answer >> 16 : 0);
+        HOLD(MATNOSORU_READ_REFUSAL(answer), (answer & 0xFF) == 9 ? answer >> 16 & 0xFF : 0);
+        HOLD(MATNOSORU_REASON(answer), (answer & 0xFF) == 9 ? answer >> 24 : 0);
         if (MATNOSORU_KIND(answer) != 9) HOLD(matnosoru_write(0, 0, answer), WORDS[k].raw & 0xFFFFFFFF);
     }
+}
+
+/* The look-up of an address, and the reason in the reading of csrrs x1,address,x0. */
+static void hold_lookup(uint64_t flags, uint64_t custom, uint64_t address, uint64_t lookup, uint64_t reason) {
+    uint64_t answer = matnosoru_read_system(flags, custom, address << 20 | 0x20F3);
+    HOLD(matnosoru_csr_lookup(flags, custom, address), lookup);
+    HOLD(MATNOSORU_REASON(answer), reason);
+    HOLD(MATNOSORU_READ_REFUSAL(answer), reason ? MATNOSORU_INVALID_CSR_OP : 0);
+}
+
+static void hold_lookups(void) {
+    uint64_t all = ~(uint64_t)0;
+    hold_lookup(0, 0, 0x300, MATNOSORU_AVAILABLE, 0);
+    hold_lookup(0, 0, 0xC00, MATNOSORU_GATE_OFF, MATNOSORU_REASON_GATE_OFF);
+    hold_lookup(1, 0, 0xC00, MATNOSORU_AVAILABLE, 0);
+    hold_lookup(0xFF, 0, 0x7C0, MATNOSORU_GATE_OFF, MATNOSORU_REASON_GATE_OFF);
+    hold_lookup(0, 1, 0x7C0, MATNOSORU_AVAILABLE, 0);
+    hold_lookup(0xFF, all >> 1, 0x7FF, MATNOSORU_GATE_OFF, MATNOSORU_REASON_GATE_OFF);
+    hold_lookup(0xFF, all, 0x000, MATNOSORU_NO_SUCH, MATNOSORU_REASON_NO_SUCH);
+    hold_lookup(0xFF, all, 0x7A1, MATNOSORU_NO_SUCH, MATNOSORU_REASON_NO_SUCH);
+    hold_lookup(0xFF, all, 0xC03, MATNOSORU_NO_SUCH, MATNOSORU_REASON_NO_SUCH);
+    hold_lookup(0xFF, all, 0xFFF, MATNOSORU_NO_SUCH, MATNOSORU_REASON_NO_SUCH);
+    HOLD(matnosoru_csr_lookup(0xFF, all, 4096), MATNOSORU_NO_SUCH);
+    HOLD(matnosoru_csr_lookup(0xFF, all, (uint64_t)1 << 32 | 0x300), MATNOSORU_NO_SUCH);
+    HOLD(matnosoru_csr_lookup(0xFF, all, all), MATNOSORU_NO_SUCH);
+    HOLD(MATNOSORU_REASON(matnosoru_read_system(0xFF, all, 0xF1401073)), MATNOSORU_REASON_READ_ONLY);
 }
 
 /* What is no stack-based compressed form, in document 01's order of numbers. */
@@ -371,6 +406,8 @@ static void round_of(int round) {
     put(matnosoru_write(flags, custom, instruction));
     put(matnosoru_csr(flags, custom, any % 4096));
     put(matnosoru_csr(flags, custom, bent));
+    put(matnosoru_csr_lookup(flags, custom, any % 4096));
+    put(matnosoru_csr_lookup(flags, custom, bent));
     put(matnosoru_csr_count(flags, custom));
     put(matnosoru_sign_extend(any, (uint64_t)1 << (bent % 5)));
     put(matnosoru_calculate_addr(any, (uint64_t)((int64_t)bent >> (any & 63))));
@@ -400,6 +437,7 @@ static void round_of(int round) {
 
 void begin(void) {
     hold_words();
+    hold_lookups();
     hold_stack_writes();
     hold_log();
     hold_batch();

@@ -27,7 +27,8 @@
 //!   the compressed words of other instructions and for the reserved store widths; it reads other opcodes (such as flw, lr.w, or a
 //!   store in `decode_load`) as if they were loads or stores, and the reserved load width as 64 bits unsigned. The library refuses all
 //!   of these, and this file panics with the word and the refusal's number.
-//! - Nothing is logged of an unknown CSR.
+//! - Nothing is logged of an unknown CSR. `InvalidCsrOp` has no reason, as in the original. The crate's refusal that becomes it has one,
+//!   and prints as "2 (mhpmcounter3 is there only with Zihpm)", which can be logged there.
 
 use matnosoru::{Profile, Refusal};
 
@@ -184,7 +185,7 @@ impl MiralisContext {
             Ok(Proved::Sfencevma { rs1, rs2 }) => IllegalInst::Sfencevma { rs1: register(rs1), rs2: register(rs2) },
             Ok(Proved::Hfencevvma { rs1, rs2 }) => IllegalInst::Hfencevvma { rs1: register(rs1), rs2: register(rs2) },
             Ok(Proved::Hfencegvma { rs1, rs2 }) => IllegalInst::Hfencegvma { rs1: register(rs1), rs2: register(rs2) },
-            Err(Refusal::InvalidCsrOp) => IllegalInst::InvalidCsrOp,
+            Err(Refusal::InvalidCsrOp(_)) => IllegalInst::InvalidCsrOp,
             Err(_) => IllegalInst::Unknown,
         }
     }

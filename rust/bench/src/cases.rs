@@ -4,6 +4,7 @@ use std::hint::black_box;
 
 use bench::program::Work;
 use bench::streams::{self, PROFILE, Stream};
+use compare::reasons::Reasons;
 use compare::sides::{Library, Original, Side};
 use compare::{Reading, domain};
 
@@ -119,12 +120,17 @@ impl Work for Words {
         self.read.each_ref().map(Stream::count)
     }
 
-    /// The library answers each word as the Rust does, or as is wanted where the Rust cannot read it.
+    /// The library answers each word as the Rust does, with the reason that the Rust leaves out, or as is wanted where the Rust cannot
+    /// read it.
     fn assert_same(&self) {
         let (rust, library) = (Original::new(PROFILE), Library::new(PROFILE));
         for reading in Reading::ALL {
             for &word in &self.stream.words[reading as usize] {
-                let wanted = if domain::contains(reading, word) { rust.read(reading, word) } else { domain::wanted(reading, word) };
+                let wanted = if domain::contains(reading, word) {
+                    Reasons::get().with_letter(rust.read(reading, word), word)
+                } else {
+                    domain::wanted(reading, word)
+                };
                 assert_eq!(wanted, library.read(reading, word), "{} {word:#X}", reading.name());
             }
         }

@@ -1,11 +1,13 @@
 //! What the programs of this package share: the answers of each decoder as one number, the inputs on which the Rust's answer is
-//! the wanted one, and random words.
+//! the wanted one, the reasons that its answers leave out, and random words.
 //!
 //! An answer is an *instruction word*: the bytes of the instruction's log record, lowest first, zeros above; for a refusal the bytes
-//! 9, reading, number.
+//! 9, reading, number and the letter of a reason, which the library alone gives.
 
 pub mod domain;
 pub mod random;
+#[cfg(have_miralis)]
+pub mod reasons;
 pub mod sides;
 
 /// The three readings of a raw word, by their numbers in the log.
@@ -28,7 +30,7 @@ impl Reading {
         }
     }
 
-    /// The answer that refuses with this number.
+    /// The answer that refuses with this number, and with no reason.
     pub const fn refused(self, number: u8) -> u64 {
         u64::from_le_bytes([9, self as u8, number, 0, 0, 0, 0, 0])
     }
@@ -38,6 +40,12 @@ impl Reading {
 pub const fn refusal(answer: u64) -> Option<u8> {
     let [kind, _, number, ..] = answer.to_le_bytes();
     if kind == 9 { Some(number) } else { None }
+}
+
+/// The letter of the reason where an answer has one, else 0.
+pub const fn letter(answer: u64) -> u8 {
+    let [kind, _, _, letter, ..] = answer.to_le_bytes();
+    if kind == 9 { letter } else { 0 }
 }
 
 /// A profile: the flags from bit 0 up and the mask of custom CSRs.

@@ -167,6 +167,10 @@ impl Library {
     pub fn csr_count(&self) -> u64 {
         matnosoru::abi::csr_count(self.0.flags, self.0.custom)
     }
+
+    pub fn csr_lookup(&self, address: u64) -> u64 {
+        matnosoru::abi::csr_lookup(self.0.flags, self.0.custom, address)
+    }
 }
 
 #[cfg(feature = "proved")]

@@ -2,7 +2,8 @@
 //!
 //! `flags` and `custom` are a profile (see [`Profile`](crate::Profile)). An instruction crosses as its *instruction word*, the bytes
 //! of its log record, lowest byte first, zeros above. The three readings answer such a word, of kind 9 for a refusal
-//! ([`read_refusal`]). Any other answer that may be a refusal is its number times 2^32 for one, and below 2^32 otherwise ([`answer`]).
+//! ([`read_refusal`], [`reason`]). Any other answer that may be a refusal is its number times 2^32 for one, and below 2^32 otherwise
+//! ([`answer`]).
 
 // The one place of the crate that calls out of Rust.
 #![allow(unsafe_code)]
@@ -19,6 +20,7 @@ mod ffi {
         pub safe fn matnosoru_read_store(flags: u64, custom: u64, raw: u64) -> u64;
         pub safe fn matnosoru_write(flags: u64, custom: u64, instruction_word: u64) -> u64;
         pub safe fn matnosoru_csr(flags: u64, custom: u64, address: u64) -> u64;
+        pub safe fn matnosoru_csr_lookup(flags: u64, custom: u64, address: u64) -> u64;
         pub safe fn matnosoru_csr_count(flags: u64, custom: u64) -> u64;
         pub safe fn matnosoru_sign_extend(value: u64, bytes: u64) -> u64;
         pub safe fn matnosoru_calculate_addr(base: u64, imm: u64) -> u64;
@@ -69,6 +71,15 @@ pub const SLOT_LENGTH: usize = 12;
 /// What [`tables_differ`] answers where two tables make the same CSRs available.
 pub const SAME: u64 = 32768;
 
+/// What [`csr_lookup`] answers where the profile makes the CSR available.
+pub const AVAILABLE: u64 = 1;
+
+/// What [`csr_lookup`] answers where another profile makes the CSR available, and this one does not.
+pub const GATE_OFF: u64 = 2;
+
+/// What [`csr_lookup`] answers where no profile makes a CSR available.
+pub const NO_SUCH: u64 = 3;
+
 /// An answer that may be a refusal, taken apart.
 #[inline]
 pub const fn answer(answer: u64) -> Result<u64, Refusal> {
@@ -88,6 +99,16 @@ pub const fn read_refusal(word: u64) -> u64 {
     }
 }
 
+/// The reason's letter in the answer of a reading: that of a word of kind 9, if it has one, and 0 for any other word.
+#[inline]
+#[must_use]
+pub const fn reason(word: u64) -> u8 {
+    match word.to_le_bytes() {
+        [9, _, _, letter, ..] => letter,
+        _ => 0,
+    }
+}
+
 /// The number of the header that the library fits.
 #[inline]
 #[must_use]
@@ -95,7 +116,8 @@ pub fn version() -> u64 {
     ffi::matnosoru_version()
 }
 
-/// The SYSTEM reading of a raw word: an instruction word of kind 1 to 6, or for a refusal the bytes 9, reading, number.
+/// The SYSTEM reading of a raw word: an instruction word of kind 1 to 6, or for a refusal the bytes 9, reading, number and, with the
+/// number 2, the reason's letter.
 #[inline]
 #[must_use]
 pub fn read_system(flags: u64, custom: u64, raw: u64) -> u64 {
@@ -128,6 +150,13 @@ pub fn write(flags: u64, custom: u64, instruction_word: u64) -> u64 {
 #[must_use]
 pub fn csr(flags: u64, custom: u64, address: u64) -> u64 {
     ffi::matnosoru_csr(flags, custom, address)
+}
+
+/// What is at a CSR address, which may be any number: [`AVAILABLE`], [`GATE_OFF`] or [`NO_SUCH`].
+#[inline]
+#[must_use]
+pub fn csr_lookup(flags: u64, custom: u64, address: u64) -> u64 {
+    ffi::matnosoru_csr_lookup(flags, custom, address)
 }
 
 /// How many CSRs are available.

@@ -26,7 +26,7 @@ impl Profile {
     /// Profile::batch(&profiles, &[raw; 3], &[0, 1, 8], &[0; 3], &mut slots)?;
     ///
     /// let refused = |refusal| Record::Refused { reading: Reading::System, refusal, raw };
-    /// assert_eq!(profiles[0].read_record(&slots[0])?, (refused(Refusal::InvalidCsrOp), 11));
+    /// assert_eq!(profiles[0].read_record(&slots[0])?, (refused(Refusal::InvalidCsrOp(None)), 11));
     /// let read = IllegalInst::Csrrs { csr: Csr::Cycle, rd: Register::X10, rs1: Register::X0 };
     /// assert_eq!(profiles[1].read_record(&slots[1])?, (Record::Instr(read.into()), 6));
     /// assert_eq!(Profile::EMPTY.read_record(&slots[2])?, (refused(Refusal::NoSuchHart), 11));

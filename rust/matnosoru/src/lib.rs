@@ -9,7 +9,20 @@
 //! let hart = Profile::default();
 //! let read = hart.decode_illegal_instruction(0xF14022F3);
 //! assert_eq!(read, Ok(IllegalInst::Csrrs { csr: Csr::Mhartid, rd: Register::X5, rs1: Register::X0 }));
-//! assert_eq!(hart.decode_illegal_instruction(0xF1401073), Err(Refusal::InvalidCsrOp));
+//! assert!(matches!(hart.decode_illegal_instruction(0xF1401073), Err(Refusal::InvalidCsrOp(_))));
+//! ```
+//!
+//! The refusal of a CSR has a [`Reason`]: (a) it is read-only and would be written, (b) this profile does not make it available and
+//! another does, (c) no profile does. It prints as a sentence:
+//!
+//! ```
+//! use matnosoru::{Profile, Reason};
+//!
+//! // csrrs x10,mhpmcounter3,x0
+//! let refusal = Profile::default().decode_illegal_instruction(0xB030_2573).unwrap_err();
+//! assert_eq!(refusal.number(), 2);
+//! assert_eq!(refusal.reason(), Some(Reason::GateOff { address: 0xB03 }));
+//! assert_eq!(refusal.to_string(), "2 (mhpmcounter3 is there only with Zihpm)");
 //! ```
 //!
 //! A trap log is walked by [`Log`], record by record, and listed by [`Listing`]:
@@ -26,6 +39,23 @@
 //!
 //! let text: String = Listing::new(&log).map(|line| line.to_string()).collect();
 //! assert_eq!(text, "at kind answer\n0 01 10500073\n1 0A hart 3\nbad 11 at 12\n");
+//! # Ok::<(), matnosoru::Bad>(())
+//! ```
+//!
+//! A log keeps a refusal's number and no reason. The reason is had by reading the record's raw word again, under the profile of the hart
+//! that is current there:
+//!
+//! ```
+//! use matnosoru::{Log, Record, Refusal};
+//!
+//! let bytes = [9, 0, 2, 0x73, 0x25, 0x30, 0xB0, 0, 0, 0, 0];
+//! let mut log = Log::new(&bytes);
+//! while let Some(entry) = log.next() {
+//!     let Record::Refused { refusal: Refusal::InvalidCsrOp(_), raw, .. } = entry?.record else { continue };
+//!     let hart = log.state().profile(log.state().hart()).unwrap_or_default();
+//!     let reason = hart.decode_illegal_instruction(raw as usize).err().and_then(Refusal::reason);
+//!     assert_eq!(reason.unwrap().to_string(), "mhpmcounter3 is there only with Zihpm");
+//! }
 //! # Ok::<(), matnosoru::Bad>(())
 //! ```
 //!
@@ -61,6 +91,7 @@ mod batch;
 mod instr;
 mod log;
 mod profile;
+mod reason;
 mod record;
 mod refusal;
 mod registers;
@@ -68,14 +99,15 @@ mod utils;
 
 pub use instr::{IllegalInst, Instr, LoadInstr, StoreInstr};
 pub use log::{Bad, Entry, Listing, Log, State, Text};
-pub use profile::{Difference, Profile, first_difference};
+pub use profile::{CsrLookup, Difference, Profile, first_difference};
+pub use reason::Reason;
 pub use record::{Line, Reading, Record};
 pub use refusal::Refusal;
 pub use registers::{Csr, Register, csr};
 pub use utils::{Width, calculate_addr, sign_extend};
 
 /// The version of the library that this crate is for: MATNOSORU_VERSION of include/matnosoru.h.
-pub const VERSION: u64 = 3;
+pub const VERSION: u64 = 4;
 
 /// The version of the library that is linked. Where it is not [`VERSION`], archive and crate are of different releases.
 #[must_use]

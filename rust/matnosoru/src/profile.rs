@@ -35,6 +35,17 @@ fn read<T>(word: u64, from_word: impl FnOnce(u64) -> Option<T>) -> Result<T, Ref
     from_word(word).ok_or_else(|| Refusal::from_number(abi::read_refusal(word)))
 }
 
+/// What is at a CSR address under a profile. There is no fourth answer.
+#[derive(Clone, Copy, Debug, PartialEq, Eq, Hash)]
+pub enum CsrLookup {
+    /// This register, which is available
+    Found(Csr),
+    /// A register that another profile makes available, and this one does not
+    GateOff,
+    /// Nothing that any profile makes available
+    NoSuch,
+}
+
 impl Profile {
     /// The profile with no flag and no custom CSR.
     pub const EMPTY: Profile = Profile::from_flags(0, 0);
@@ -83,10 +94,12 @@ impl Profile {
 
     /// Decodes a raw illegal instruction. Refusals 1 ([`Refusal::Unknown`]) and 2 ([`Refusal::InvalidCsrOp`]).
     ///
-    /// Instructions that are not SYSTEM instructions (including all compressed instructions) are refused with 1.
+    /// Instructions that are not SYSTEM instructions (including all compressed instructions) are refused with 1. The refusal 2 has a
+    /// [`Reason`](crate::Reason).
     #[inline]
     pub fn decode_illegal_instruction(&self, raw_instr: usize) -> Result<IllegalInst, Refusal> {
-        read(abi::read_system(self.flags(), self.custom, raw_instr as u64), IllegalInst::from_word)
+        let word = abi::read_system(self.flags(), self.custom, raw_instr as u64);
+        IllegalInst::from_word(word).ok_or_else(|| Refusal::of_system(word, raw_instr))
     }
 
     /// Decodes a CSR address, returns `None` if the CSR is not available.
@@ -96,6 +109,18 @@ impl Profile {
         match abi::csr(self.flags(), self.custom, csr as u64) {
             0 => None,
             _ => Csr::at(csr),
+        }
+    }
+
+    /// Looks a CSR address up: the register, or why it is not available.
+    #[inline]
+    #[must_use]
+    pub fn csr_lookup(&self, csr: usize) -> CsrLookup {
+        match (abi::csr_lookup(self.flags(), self.custom, csr as u64), Csr::at(csr)) {
+            (abi::AVAILABLE, Some(csr)) => CsrLookup::Found(csr),
+            (abi::GATE_OFF, _) => CsrLookup::GateOff,
+            // what is available has a register
+            _ => CsrLookup::NoSuch,
         }
     }
 

@@ -27,7 +27,7 @@ pub enum Record {
     Refused {
         /// The reading that refused it
         reading: Reading,
-        /// Its refusal
+        /// Its refusal; a log keeps no reason
         refusal: Refusal,
         /// The raw word
         raw: u64,

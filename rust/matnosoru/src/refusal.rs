@@ -2,6 +2,8 @@
 
 use core::fmt;
 
+use crate::{Reason, abi};
+
 /// Why a call says no. Each has its number in the log and in the library's answers. A later library may have further ones.
 #[derive(Clone, Copy, Debug, PartialEq, Eq, Hash)]
 #[non_exhaustive]
@@ -9,7 +11,10 @@ pub enum Refusal {
     /// 1, SYSTEM reading: no such instruction. Miralis's `IllegalInst::Unknown`.
     Unknown,
     /// 2, SYSTEM reading: the CSR is not available, or is read-only and written. Miralis's `IllegalInst::InvalidCsrOp`.
-    InvalidCsrOp,
+    ///
+    /// A reading says which ([`Refusal::reason`]). A log keeps the number alone, so what comes from a log has no reason; nor has
+    /// what is made from a number. The two are not equal: [`Refusal::without_reason`] makes them so.
+    InvalidCsrOp(Option<Reason>),
     /// 3, load or store reading: not such a form.
     NotTheForm,
     /// 4, load or store reading: load funct3 7, store funct3 4 to 7.
@@ -50,7 +55,7 @@ impl Refusal {
     pub const fn number(self) -> u64 {
         match self {
             Refusal::Unknown => 1,
-            Refusal::InvalidCsrOp => 2,
+            Refusal::InvalidCsrOp(_) => 2,
             Refusal::NotTheForm => 3,
             Refusal::ReservedWidth => 4,
             Refusal::StackForm => 5,
@@ -70,28 +75,62 @@ impl Refusal {
         }
     }
 
-    /// The refusal with this number.
+    /// The refusals by their numbers, from 0 up. (With a match in place of this table, a reading has more to do even where it accepts.)
+    const NAMED: [Refusal; 18] = [
+        Refusal::Other(0),
+        Refusal::Unknown,
+        Refusal::InvalidCsrOp(None),
+        Refusal::NotTheForm,
+        Refusal::ReservedWidth,
+        Refusal::StackForm,
+        Refusal::RegisterRange,
+        Refusal::NoSuchCsr,
+        Refusal::ReadOnlyCsr,
+        Refusal::NoForm,
+        Refusal::ImmediateRange,
+        Refusal::RecordKind,
+        Refusal::CutShort,
+        Refusal::RecordField,
+        Refusal::OutputShort,
+        Refusal::NoSuchHart,
+        Refusal::NoSuchReading,
+        Refusal::UnequalLists,
+    ];
+
+    /// The refusal with this number, and with no reason.
+    #[inline]
     #[must_use]
     pub const fn from_number(number: u64) -> Refusal {
-        match number {
-            1 => Refusal::Unknown,
-            2 => Refusal::InvalidCsrOp,
-            3 => Refusal::NotTheForm,
-            4 => Refusal::ReservedWidth,
-            5 => Refusal::StackForm,
-            6 => Refusal::RegisterRange,
-            7 => Refusal::NoSuchCsr,
-            8 => Refusal::ReadOnlyCsr,
-            9 => Refusal::NoForm,
-            10 => Refusal::ImmediateRange,
-            11 => Refusal::RecordKind,
-            12 => Refusal::CutShort,
-            13 => Refusal::RecordField,
-            14 => Refusal::OutputShort,
-            15 => Refusal::NoSuchHart,
-            16 => Refusal::NoSuchReading,
-            17 => Refusal::UnequalLists,
-            number => Refusal::Other(number),
+        match Refusal::NAMED.split_at_checked(number as usize) {
+            Some((_, [named, ..])) => *named,
+            _ => Refusal::Other(number),
+        }
+    }
+
+    /// The refusal of a word of kind 9 that the SYSTEM reading of a raw word answered.
+    #[inline]
+    pub(crate) const fn of_system(word: u64, raw: usize) -> Refusal {
+        match abi::read_refusal(word) {
+            2 => Refusal::InvalidCsrOp(Reason::from_word(word, raw)),
+            number => Refusal::from_number(number),
+        }
+    }
+
+    /// Why the CSR was refused, where this is the refusal 2 of a reading.
+    #[must_use]
+    pub const fn reason(self) -> Option<Reason> {
+        match self {
+            Refusal::InvalidCsrOp(reason) => reason,
+            _ => None,
+        }
+    }
+
+    /// The same refusal with no reason, as a log keeps it.
+    #[must_use]
+    pub const fn without_reason(self) -> Refusal {
+        match self {
+            Refusal::InvalidCsrOp(_) => Refusal::InvalidCsrOp(None),
+            refusal => refusal,
         }
     }
 }
@@ -100,7 +139,8 @@ impl fmt::Display for Refusal {
     fn fmt(&self, f: &mut fmt::Formatter<'_>) -> fmt::Result {
         let why = match self {
             Refusal::Unknown => "no such SYSTEM instruction",
-            Refusal::InvalidCsrOp => "the CSR is not available, or is read-only and written",
+            Refusal::InvalidCsrOp(Some(reason)) => return write!(f, "{} ({reason})", self.number()),
+            Refusal::InvalidCsrOp(None) => "the CSR is not available, or is read-only and written",
             Refusal::NotTheForm => "not a word of this reading",
             Refusal::ReservedWidth => "a reserved width",
             Refusal::StackForm => "low two bits 10, and no stack-based form of this reading",

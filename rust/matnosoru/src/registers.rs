@@ -1,5 +1,7 @@
 //! RISC-V registers: the counterpart of Miralis's src/arch/registers.rs.
 
+use core::fmt::{self, Write};
+
 use crate::Refusal;
 
 /// General purpose registers.
@@ -224,6 +226,22 @@ macro_rules! csrs {
                     csr::CUSTOM0..=csr::CUSTOM63 => Csr::Custom(address),
                     _ => return None,
                 })
+            }
+        }
+
+        /// The register's name as the manuals write it: mhartid, pmpcfg2, mhpmcounter3. A custom one has only its address.
+        impl fmt::Display for Csr {
+            fn fmt(&self, f: &mut fmt::Formatter<'_>) -> fmt::Result {
+                let name = match *self {
+                    $(Csr::$name => stringify!($name),)*
+                    Csr::Pmpcfg(id) => return write!(f, "pmpcfg{id}"),
+                    Csr::Pmpaddr(id) => return write!(f, "pmpaddr{id}"),
+                    // the first has the number 3
+                    Csr::Mhpmcounter(id) => return write!(f, "mhpmcounter{}", id.saturating_add(3)),
+                    Csr::Mhpmevent(id) => return write!(f, "mhpmevent{}", id.saturating_add(3)),
+                    Csr::Custom(id) => return write!(f, "custom CSR {id:#05x}"),
+                };
+                name.chars().try_for_each(|letter| f.write_char(letter.to_ascii_lowercase()))
             }
         }
     };

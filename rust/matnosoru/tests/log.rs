@@ -1,7 +1,7 @@
 //! The trap log: document 01's 35 bytes, walks and listings, records there and back, and comparing tables.
 
 use matnosoru::{
-    Bad, Csr, Difference, IllegalInst, Instr, Line, Listing, LoadInstr, Log, Profile, Reading, Record, Refusal, Register::*, State,
+    Bad, Csr, Difference, IllegalInst, Instr, Line, Listing, LoadInstr, Log, Profile, Reading, Reason, Record, Refusal, Register::*, State,
     StoreInstr, Text, Width, abi, first_difference,
 };
 
@@ -67,7 +67,7 @@ fn walk() {
             Record::Profile { hart: 0, profile: Profile::EMPTY },
             Record::Instr(csrrs.into()),
             Record::Instr(lw.into()),
-            Record::Refused { reading: Reading::System, refusal: Refusal::InvalidCsrOp, raw: 0xF1401073 },
+            Record::Refused { reading: Reading::System, refusal: Refusal::InvalidCsrOp(None), raw: 0xF1401073 },
         ]
     );
     assert_eq!(entries[3].line.as_str(), "24 09 refused 2\n");
@@ -215,7 +215,7 @@ fn there_and_back() {
         records.push(Record::Instr(Instr::Store(StoreInstr { rs2, rs1, imm, len, is_compressed })));
     }
     for (reading, refusals) in [
-        (Reading::System, &[Refusal::Unknown, Refusal::InvalidCsrOp, Refusal::NoSuchHart][..]),
+        (Reading::System, &[Refusal::Unknown, Refusal::InvalidCsrOp(None), Refusal::NoSuchHart][..]),
         (Reading::Load, &[Refusal::NotTheForm, Refusal::ReservedWidth, Refusal::StackForm, Refusal::NoSuchHart]),
         (Reading::Store, &[Refusal::NotTheForm, Refusal::ReservedWidth, Refusal::StackForm, Refusal::NoSuchHart]),
         (Reading::NoSuch, &[Refusal::NoSuchHart, Refusal::NoSuchReading]),
@@ -237,6 +237,21 @@ fn there_and_back() {
         assert_eq!(full.write_record(record, &mut short), Err(Refusal::OutputShort));
         assert!(short.iter().all(|b| *b == 0xEE), "a refusal leaves the buffer");
     }
+}
+
+/// A refusal's reason is in no record: it is written as it is without, read back without, and had again from the raw word.
+#[test]
+fn no_reason() {
+    let refusal = Profile::EMPTY.decode_illegal_instruction(0xF1401073).unwrap_err();
+    assert_eq!(refusal.reason(), Some(Reason::ReadOnly { address: 0xF14 }));
+    let mut out = [0; Record::LONGEST];
+    let refused = |refusal| Record::Refused { reading: Reading::System, refusal, raw: 0xF1401073 };
+    assert_eq!(Profile::EMPTY.write_record(&refused(refusal), &mut out), Ok(11));
+    assert_eq!(out, LOG[24..]);
+    let Ok((read, 11)) = Profile::EMPTY.read_record(&out) else { panic!("{out:?}") };
+    assert_eq!(read, refused(refusal.without_reason()));
+    let Record::Refused { raw, .. } = read else { panic!("{read:?}") };
+    assert_eq!(Profile::EMPTY.decode_illegal_instruction(raw as usize), Err(refusal));
 }
 
 #[test]

@@ -1,6 +1,9 @@
 //! Each refusal, given by the call that gives it, and in document 01's order where two apply.
 
-use matnosoru::{Csr, IllegalInst::*, Instr, LoadInstr, Profile, Reading, Record, Refusal, Register, Register::*, StoreInstr, Width, abi};
+use matnosoru::{
+    Csr, CsrLookup, IllegalInst::*, Instr, LoadInstr, Profile, Reading, Reason, Record, Refusal, Register, Register::*, StoreInstr, Width,
+    abi,
+};
 
 const EMPTY: Profile = Profile::EMPTY;
 
@@ -26,7 +29,7 @@ fn numbers() {
 fn readings() {
     // 1, 2
     assert_eq!(EMPTY.decode_illegal_instruction(0x80052283), Err(Refusal::Unknown));
-    assert_eq!(EMPTY.decode_illegal_instruction(0xC0002573), Err(Refusal::InvalidCsrOp));
+    assert!(matches!(EMPTY.decode_illegal_instruction(0xC0002573), Err(Refusal::InvalidCsrOp(_))));
     assert!(Profile::from_flags(1, 0).decode_illegal_instruction(0xC0002573).is_ok());
     // 3: foreign words, the other reading's, compressed words of neither; before 4
     for raw in [0xFEB13C23, 0x80052287, 0xFFFF_FFFF, 0xF14022F3, 0xC000, 0x0001, 0x8000, 0x2000, 0] {
@@ -52,6 +55,159 @@ fn readings() {
     // the loads, with rd 0 too
     for raw in [0x4002, 0x4502, 0x5FFE, 0x6002, 0x6502, 0x7FFE, 0xC502_4502] {
         assert_eq!(EMPTY.decode_store(raw), Err(Refusal::StackForm), "{raw:#x}");
+    }
+}
+
+/// A CSR form: funct3, the address, rd and the source field.
+const fn access(funct3: usize, address: usize, rd: usize, source: usize) -> usize {
+    address << 20 | source << 15 | funct3 << 12 | rd << 7 | 0x73
+}
+
+/// The refusal 2 of a word under a profile, with its reason; the number and what is left without the reason are always the same.
+fn reason(profile: Profile, raw: usize) -> Reason {
+    let refusal = profile.decode_illegal_instruction(raw).unwrap_err();
+    assert_eq!((refusal.number(), refusal.without_reason()), (2, Refusal::InvalidCsrOp(None)), "{raw:#x}");
+    refusal.reason().unwrap_or_else(|| panic!("{raw:#x} has no reason"))
+}
+
+/// a before b and c, by the address alone; then b for what some profile has, and c for the rest.
+#[test]
+fn reasons() {
+    let full = Profile::from_flags(!0, !0);
+    for profile in [EMPTY, full] {
+        for address in [0xFFF, 0xC03] {
+            for funct3 in [1, 2, 3, 5, 6, 7] {
+                assert_eq!(reason(profile, access(funct3, address, 0, 1)), Reason::ReadOnly { address }, "{address:#x} {funct3}");
+            }
+            // a write with source 0 writes, and a set or clear reads
+            for funct3 in [1, 5] {
+                assert_eq!(reason(profile, access(funct3, address, 5, 0)), Reason::ReadOnly { address }, "{address:#x} {funct3}");
+            }
+            for funct3 in [2, 3, 6, 7] {
+                assert_eq!(reason(profile, access(funct3, address, 5, 0)), Reason::NoSuch { address }, "{address:#x} {funct3}");
+            }
+        }
+        assert_eq!(reason(profile, access(2, 0x7A1, 1, 0)), Reason::NoSuch { address: 0x7A1 });
+        assert_eq!(reason(profile, access(1, 0x7A1, 1, 1)), Reason::NoSuch { address: 0x7A1 });
+    }
+    for address in 0x7C0..=0x7FF {
+        let bit = 1 << (address - 0x7C0);
+        for custom in [0, !bit] {
+            assert_eq!(reason(Profile::from_flags(!0, custom), access(2, address, 1, 0)), Reason::GateOff { address });
+        }
+        assert!(Profile::from_flags(0, bit).decode_illegal_instruction(access(2, address, 1, 0)).is_ok());
+    }
+    // cycle is there only with Zicntr, and is read-only in any case
+    assert_eq!(reason(EMPTY, access(2, 0xC00, 1, 0)), Reason::GateOff { address: 0xC00 });
+    assert_eq!(reason(EMPTY, access(2, 0xC00, 1, 1)), Reason::ReadOnly { address: 0xC00 });
+    // the address is in bits 20 to 31, whatever is above
+    assert_eq!(reason(EMPTY, 0xDEAD_BEEF << 32 | access(2, 0x7A1, 1, 0)), Reason::NoSuch { address: 0x7A1 });
+    assert_eq!(reason(EMPTY, 1 << 32 | access(1, 0xFFF, 0, 1)), Reason::ReadOnly { address: 0xFFF });
+}
+
+/// The reason is the word's: the letter that crosses, and the address in the raw word.
+#[test]
+fn reasons_cross() {
+    let mixed = Profile::from_flags(0xA5, 0x0123_4567_89AB_CDEF);
+    let forms = [1, 2, 3, 5, 6, 7].into_iter().flat_map(|funct3| [0, 1, 16, 31].map(|source| (funct3, source)));
+    let words = forms.flat_map(|(funct3, source)| (0..4096).map(move |address| (address, access(funct3, address, 9, source))));
+    for (address, raw) in words {
+        for profile in [EMPTY, mixed, Profile::from_flags(!0, !0)] {
+            let word = abi::read_system(profile.flags(), profile.custom, raw as u64);
+            let crossed = (abi::read_refusal(word) == 2).then(|| (abi::reason(word) as char, address));
+            let reason = profile.decode_illegal_instruction(raw).err().and_then(Refusal::reason);
+            assert_eq!(reason.map(|reason| (reason.letter(), reason.address())), crossed, "{raw:#x}");
+        }
+    }
+}
+
+/// What each reason says, and the refusal with it.
+#[test]
+fn reasons_in_words() {
+    let full = Profile::from_flags(!0, !0);
+    for (profile, address, source, letter, text) in [
+        (EMPTY, 0xF14, 1, 'a', "mhartid is read-only and would be written"),
+        (EMPTY, 0xC00, 1, 'a', "cycle is read-only and would be written"),
+        (full, 0xFFF, 1, 'a', "CSR 0xfff is read-only by its address and would be written"),
+        (EMPTY, 0xC01, 0, 'b', "time is there only with Zicntr"),
+        (EMPTY, 0xB03, 0, 'b', "mhpmcounter3 is there only with Zihpm"),
+        (EMPTY, 0x33F, 0, 'b', "mhpmevent31 is there only with Zihpm"),
+        (EMPTY, 0x747, 0, 'b', "mseccfg is there only with the TEE extension"),
+        (EMPTY, 0x180, 0, 'b', "satp is there only with supervisor mode"),
+        (EMPTY, 0x602, 0, 'b', "hedeleg is there only with the hypervisor extension"),
+        (EMPTY, 0x14D, 0, 'b', "stimecmp is there only with Sstc"),
+        (EMPTY, 0x008, 0, 'b', "vstart is there only with the vector extension"),
+        (EMPTY, 0x015, 1, 'b', "seed is there only with the scalar crypto extension"),
+        (EMPTY, 0x7C5, 0, 'b', "custom CSR 0x7c5 is there only with bit 5 of the custom mask"),
+        (EMPTY, 0x7FF, 1, 'b', "custom CSR 0x7ff is there only with bit 63 of the custom mask"),
+        (full, 0x7A1, 0, 'c', "tdata1 (0x7a1) is not there under any profile"),
+        (full, 0xFFF, 0, 'c', "there is no CSR at 0xfff"),
+        (full, 0x001, 1, 'c', "there is no CSR at 0x001"),
+    ] {
+        let raw = access(2, address, 1, source);
+        let reason = reason(profile, raw);
+        assert_eq!((reason.letter(), reason.address(), reason.to_string().as_str()), (letter, address, text));
+        assert_eq!(profile.decode_illegal_instruction(raw).unwrap_err().to_string(), format!("2 ({text})"));
+    }
+}
+
+/// No reason: any other refusal, and the refusal 2 that comes from a number.
+#[test]
+fn no_reasons() {
+    for number in 0..40 {
+        let refusal = Refusal::from_number(number);
+        assert_eq!((refusal.reason(), refusal.without_reason()), (None, refusal), "{number}");
+    }
+    assert_eq!(Refusal::from_number(2).to_string(), "2 (the CSR is not available, or is read-only and written)");
+    assert_eq!(EMPTY.decode_illegal_instruction(0x73).unwrap_err().reason(), None);
+    assert_eq!(EMPTY.decode_load(0x7003).unwrap_err().reason(), None);
+    assert_eq!(EMPTY.decode_store(0x7023).unwrap_err().reason(), None);
+}
+
+/// The look-up at its edges, by the number that crosses.
+#[test]
+fn lookup_edges() {
+    for (custom, address, answer) in [
+        (0, 0, abi::NO_SUCH),
+        (0, 0x300, abi::AVAILABLE),
+        (0, 0x7C0, abi::GATE_OFF),
+        (1, 0x7C0, abi::AVAILABLE),
+        (!1, 0x7C0, abi::GATE_OFF),
+        (1 << 63, 0x7FF, abi::AVAILABLE),
+        (!(1 << 63), 0x7FF, abi::GATE_OFF),
+        (!0, 0x7A1, abi::NO_SUCH),
+        (!0, 0xC03, abi::NO_SUCH),
+        (!0, 0xFFF, abi::NO_SUCH),
+        (!0, 4096, abi::NO_SUCH),
+        (!0, 4096 + 0x300, abi::NO_SUCH),
+        (!0, 1 << 32 | 0x300, abi::NO_SUCH),
+        (!0, u64::MAX, abi::NO_SUCH),
+    ] {
+        assert_eq!(abi::csr_lookup(0, custom, address), answer, "{address:#x} with mask {custom:#x}");
+    }
+    // flags that mean nothing are ignored
+    assert_eq!(abi::csr_lookup(0xFF00, 0, 0xC00), abi::GATE_OFF);
+    assert_eq!(abi::csr_lookup(0xFF01, 0, 0xC00), abi::AVAILABLE);
+    assert_eq!(EMPTY.csr_lookup(0x300), CsrLookup::Found(Csr::Mstatus));
+    assert_eq!(EMPTY.csr_lookup(usize::MAX), CsrLookup::NoSuch);
+}
+
+/// The look-up at every address under all flags: available where `csr` says so, gate off where the full profile has it, else no such.
+#[test]
+fn lookups() {
+    for address in 0..=4096 {
+        let some = abi::csr(0xFF, !0, address) == 1;
+        for (flags, custom) in (0..256).flat_map(|flags| [(flags, 0), (flags, !0)]) {
+            let here = abi::csr(flags, custom, address) == 1;
+            let (answer, looked) = match Csr::at(address as usize) {
+                Some(csr) if here => (abi::AVAILABLE, CsrLookup::Found(csr)),
+                _ if some => (abi::GATE_OFF, CsrLookup::GateOff),
+                _ => (abi::NO_SUCH, CsrLookup::NoSuch),
+            };
+            let profile = Profile::from_flags(flags, custom);
+            assert_eq!(abi::csr_lookup(flags, custom, address), answer, "{address:#x} {profile:?}");
+            assert_eq!(profile.csr_lookup(address as usize), looked, "{address:#x} {profile:?}");
+        }
     }
 }
 

@@ -1,6 +1,8 @@
 //! Document 01's own words: the thirteen at the edges, under the empty profile, and the further ones.
 
-use matnosoru::{Csr, IllegalInst::*, LoadInstr, Profile, Refusal, Register, Register::*, StoreInstr, Width, calculate_addr, sign_extend};
+use matnosoru::{
+    Csr, IllegalInst::*, LoadInstr, Profile, Reason, Refusal, Register, Register::*, StoreInstr, Width, calculate_addr, sign_extend,
+};
 
 const EMPTY: Profile = Profile::EMPTY;
 
@@ -8,11 +10,12 @@ const EMPTY: Profile = Profile::EMPTY;
 fn thirteen() {
     let system = |raw| EMPTY.decode_illegal_instruction(raw);
     assert_eq!(system(0xF14022F3), Ok(Csrrs { csr: Csr::Mhartid, rd: X5, rs1: X0 }));
-    assert_eq!(system(0xF1401073), Err(Refusal::InvalidCsrOp));
-    assert_eq!(system(0xF140A2F3), Err(Refusal::InvalidCsrOp));
+    let refused = |reason| Err(Refusal::InvalidCsrOp(Some(reason)));
+    assert_eq!(system(0xF1401073), refused(Reason::ReadOnly { address: 0xF14 }));
+    assert_eq!(system(0xF140A2F3), refused(Reason::ReadOnly { address: 0xF14 }));
     assert_eq!(system(0x3A031073), Ok(Csrrw { csr: Csr::Pmpcfg(0), rd: X0, rs1: X6 }));
-    assert_eq!(system(0x3A131073), Err(Refusal::InvalidCsrOp));
-    assert_eq!(system(0x3F031073), Err(Refusal::InvalidCsrOp));
+    assert_eq!(system(0x3A131073), refused(Reason::NoSuch { address: 0x3A1 }));
+    assert_eq!(system(0x3F031073), refused(Reason::NoSuch { address: 0x3F0 }));
     assert_eq!(system(0x3EF31073), Ok(Csrrw { csr: Csr::Pmpaddr(63), rd: X0, rs1: X6 }));
     assert_eq!(system(0x12B50073), Ok(Sfencevma { rs1: X10, rs2: X11 }));
     assert_eq!(system(0x12B500F3), Err(Refusal::Unknown));
@@ -172,6 +175,23 @@ fn addresses() {
     assert_eq!(masked.decode_csr(0x7C0), Some(Csr::Custom(0x7C0)));
     assert_eq!(masked.decode_csr(0x7C1), None);
     assert_eq!(masked.decode_csr(0x7FF), Some(Csr::Custom(0x7FF)));
+}
+
+/// The registers' names, also with a payload that no register has.
+#[test]
+fn names() {
+    for (csr, name) in [
+        (Csr::Mhartid, "mhartid"),
+        (Csr::Dscratch0, "dscratch0"),
+        (Csr::Pmpcfg(2), "pmpcfg2"),
+        (Csr::Pmpaddr(63), "pmpaddr63"),
+        (Csr::Mhpmcounter(0), "mhpmcounter3"),
+        (Csr::Mhpmevent(28), "mhpmevent31"),
+        (Csr::Custom(0x7C5), "custom CSR 0x7c5"),
+        (Csr::Mhpmcounter(usize::MAX), "mhpmcounter18446744073709551615"),
+    ] {
+        assert_eq!(csr.to_string(), name);
+    }
 }
 
 #[test]

@@ -4,8 +4,9 @@
 //! - `--all` leaves no word of 32 bits out, in any reading, and no flag of a profile for the SYSTEM words.
 //! - `--monitor` puts rust/miralis/decoder.rs in the place of Miralis's src/decoder.rs.
 //!
-//! Where the Rust's answer is the wanted one (`compare::domain`), the two answers are the same. Everywhere else the library's is a
-//! stack-based form or document 01's number, and docs/DIFFERENCES.md has a row that says what the Rust does and what the
+//! Where the Rust's answer is the wanted one (`compare::domain`), the two answers are the same. The refusal 2 has a reason in the
+//! library's alone: it is held to the one that follows from the Rust's look-up (`compare::reasons`). Everywhere else the library's answer
+//! is a stack-based form or document 01's number, and docs/DIFFERENCES.md has a row that says what the Rust does and what the
 //! library does. Each instruction that the library reads it also writes back to the word that it was.
 //!
 //! The exit status is 1 where anything differs, and where there is no text of Miralis to compare with.
@@ -48,9 +49,10 @@ mod run {
 
     use compare::Reading::{self, Load, Store, System};
     use compare::random::Random;
+    use compare::reasons::Reasons;
     use compare::sides::{Checked, Library, Side};
     pub use compare::sides::{Original, StandIn};
-    use compare::{Profile, domain, refusal};
+    use compare::{Profile, domain, letter, refusal};
 
     /// The profiles under which all SYSTEM words are compared.
     const PROFILES: [Profile; 16] = [
@@ -129,16 +131,17 @@ mod run {
         }
     }
 
-    /// The two decoders under one profile.
+    /// The two decoders under one profile, and the reasons that the Rust leaves out.
     struct Pair<R> {
         profile: Profile,
         rust: R,
         library: Library,
+        reasons: &'static Reasons,
     }
 
     impl<R: Side> Pair<R> {
         fn new(profile: Profile) -> Self {
-            Pair { profile, rust: R::new(profile), library: Library::new(profile) }
+            Pair { profile, rust: R::new(profile), library: Library::new(profile), reasons: Reasons::get() }
         }
 
         /// One word in one reading.
@@ -147,7 +150,7 @@ mod run {
             let ours = self.library.read(reading, raw);
             let wanted = if domain::contains(reading, raw) {
                 found.compared += 1;
-                self.rust.read(reading, raw)
+                self.reasons.with_letter(self.rust.read(reading, raw), raw)
             } else {
                 found.outside += 1;
                 domain::wanted(reading, raw)
@@ -177,6 +180,30 @@ mod run {
                 }
             }
         }
+
+        /// One CSR address: the register there, the same register read out of an instruction, and the look-up. Answers whether the Rust
+        /// has a register there.
+        fn address(&self, found: &mut Found, address: u64) -> bool {
+            let Pair { profile, rust, library, reasons } = self;
+            let (ours, theirs) = (library.decode_csr(address), rust.decode_csr(address));
+            let is_found = theirs.is_some();
+            found.same(ours == theirs && ours.as_ref().is_none_or(|(_, at)| *at == address), || {
+                format!("CSR {address:#X} under {profile}: the library {ours:?}, {} {theirs:?}", R::NAME)
+            });
+            let (looked, wanted) = (library.csr_lookup(address), reasons.lookup(is_found, address));
+            found.same(looked == wanted, || format!("look-up of {address:#X} under {profile}: the library {looked}, wanted {wanted}"));
+            if address < 4096 {
+                let csrrs = address << 20 | 0x2073;
+                let read = library.system(csrrs);
+                let wanted = if is_found {
+                    u64::from_le_bytes([5, 2, address as u8, (address >> 8) as u8, 0, 0, 0, 0])
+                } else {
+                    reasons.with_letter(System.refused(2), csrrs)
+                };
+                found.same(read == wanted, || format!("{csrrs:#X} under {profile}: the library {}, wanted {}", text(read), text(wanted)));
+            }
+            is_found
+        }
     }
 
     /// An answer in words.
@@ -184,6 +211,7 @@ mod run {
         let [kind, width, flags, a, b, low, high, _] = answer.to_le_bytes();
         let (bits, imm) = (width as u32 * 8, i16::from_le_bytes([low, high]));
         match (kind, refusal(answer)) {
+            (_, Some(number)) if letter(answer) != 0 => format!("refuses {number} {}", letter(answer) as char),
             (_, Some(number)) => format!("refuses {number}"),
             (7, _) => format!("load {bits} {}, rd {a}, base {b}, {imm}", if flags & 2 == 2 { "unsigned" } else { "signed" }),
             (8, _) => format!("store {bits}, rs2 {b}, base {a}, {imm}"),
@@ -418,37 +446,20 @@ mod run {
     }
 
     /// `decode_csr`: which registers there are, by their names, their addresses and the count; the same register read out of an
-    /// instruction; and `idx` over every register.
+    /// instruction; the look-up; and `idx` over every register.
     fn registers<R: Side>(run: &mut Run, quick: bool) {
         let masks = [0, u64::MAX, 0x0123_4567_89AB_CDEF, 0x8000_0000_0000_0001];
         let flags: Vec<u64> = if quick { PROFILES.iter().map(|p| p.flags).collect() } else { (0..256).collect() };
-        run.part("decode_csr, all addresses", flags.len() as u64, |found, chunk| {
+        run.part("decode_csr and the look-up, all addresses", flags.len() as u64, |found, chunk| {
             for custom in masks {
                 let profile = Profile { flags: flags[chunk as usize], custom };
-                let Pair { rust, library, .. } = Pair::<R>::new(profile);
-                let mut count = 0;
+                let pair = Pair::<R>::new(profile);
+                let count = (0..4096).filter(|address| pair.address(found, *address)).count() as u64;
                 // beyond the 4096 there is no register
-                let beyond = [0x1000, 0x1300, 0x1F14, 0x1_0300, 1 << 32 | 0x300, 1 << 63 | 0x7C0, u64::MAX];
-                for address in (0..4096).chain(beyond) {
-                    let (ours, theirs) = (library.decode_csr(address), rust.decode_csr(address));
-                    let csrrs = address << 20 | 0x2073;
-                    if address < 4096 {
-                        let read = library.system(csrrs);
-                        let wanted = if theirs.is_some() {
-                            u64::from_le_bytes([5, 2, address as u8, (address >> 8) as u8, 0, 0, 0, 0])
-                        } else {
-                            System.refused(2)
-                        };
-                        found.same(read == wanted, || {
-                            format!("{csrrs:#X} under {profile}: the library {}, wanted {}", text(read), text(wanted))
-                        });
-                        count += u64::from(theirs.is_some());
-                    }
-                    found.same(ours == theirs && ours.as_ref().is_none_or(|(_, at)| *at == address), || {
-                        format!("CSR {address:#X} under {profile}: the library {ours:?}, {} {theirs:?}", R::NAME)
-                    });
+                for address in [0x1000, 0x1300, 0x1F14, 0x1_0300, 1 << 32 | 0x300, 1 << 63 | 0x7C0, u64::MAX] {
+                    pair.address(found, address);
                 }
-                let ours = library.csr_count();
+                let ours = pair.library.csr_count();
                 found.same(ours == count, || format!("count under {profile}: the library {ours}, {} {count}", R::NAME));
             }
         });

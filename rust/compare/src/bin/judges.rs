@@ -33,15 +33,11 @@ fn main() {
     }
 }
 
-/// A register's name in the assembler.
+/// A register's name in the assembler, where a custom one is a number.
 fn csr_name(csr: Csr) -> String {
     match csr {
-        Csr::Pmpcfg(id) => format!("pmpcfg{id}"),
-        Csr::Pmpaddr(id) => format!("pmpaddr{id}"),
-        Csr::Mhpmcounter(id) => format!("mhpmcounter{}", id + 3),
-        Csr::Mhpmevent(id) => format!("mhpmevent{}", id + 3),
-        Csr::Custom(id) => format!("0x{id:x}"),
-        plain => format!("{plain:?}").to_lowercase(),
+        Csr::Custom(id) => format!("{id:#x}"),
+        named => named.to_string(),
     }
 }
 
@@ -169,7 +165,7 @@ fn judged<'a>(word: u64, said: &'a str, readings: &Readings) -> (bool, &'a str) 
     let mnemonic = said.split(' ').next().unwrap_or_default();
     let half = word & 3 != 3;
     // a CSR that is in no profile is printed by its name, and refused with 2
-    let missing = readings[0] == Err(Refusal::InvalidCsrOp) && full().decode_csr(word as usize >> 20).is_none();
+    let missing = matches!(readings[0], Err(Refusal::InvalidCsrOp(_))) && full().decode_csr(word as usize >> 20).is_none();
     // what is no CSR form and no load or store is refused by all three
     let number = if word & 3 == 2 { 5 } else { 3 };
     let refused = [1, number, number].into_iter().eq(readings.iter().map(|r| r.map_or_else(|r| r.number(), |_| 0)));

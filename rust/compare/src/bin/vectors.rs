@@ -1,12 +1,17 @@
 //! Writes the list of answers that crates/vectors replays, most of them the Rust's own: `vectors FILE`.
 //!
 //! An entry is 32 bytes: the reading (0 SYSTEM, 1 load, 2 store); the flags of the hart's profile; its mask in eight bytes, low first;
-//! the raw word in eight bytes, low first; the log record of the answer in a slot of twelve, zeros after it; the hart; a zero.
+//! the raw word in eight bytes, low first; the log record of the answer in a slot of twelve, zeros after it; the hart; the letter of the
+//! refusal 2's reason, or a zero.
 //!
 //! The first entries are document 01's own words, with the answers typed in by hand as the document has them. Where the Rust's answer
 //! is the wanted one too, it is held to the typed one. Then come the Rust's own answers. After them come words with low two bits
-//! 10, which the Rust does not read: their answers are the fields that the words are made of. All these have the harts 0 to 7 in turn.
-//! The last entries have no such hart or no such reading, and document 02's records for that.
+//! 10, which the Rust does not read: their answers are the fields that the words are made of. Then come words that are refused with 2,
+//! the letters of the reasons typed in by hand. All these have the harts 0 to 7 in turn. The last entries have no such hart or no such
+//! reading, and document 02's records for that.
+//!
+//! The Rust gives no reasons. A letter follows from the word and from the Rust's look-up (`compare::reasons`), and a typed one is held to
+//! that.
 
 #[cfg(not(have_miralis))]
 fn main() {
@@ -35,8 +40,9 @@ mod run {
 
     use compare::Reading::{self, Load, Store, System};
     use compare::random::Random;
+    use compare::reasons::Reasons;
     use compare::sides::{Checked, Original, Side};
-    use compare::{Profile, domain, refusal};
+    use compare::{Profile, domain, letter, refusal};
 
     /// The list so far. An input is in it once, whichever hart below 8 it has.
     #[derive(Default)]
@@ -95,26 +101,27 @@ mod run {
             entry[21..29].copy_from_slice(&raw.to_le_bytes());
         }
         entry[30] = hart;
+        entry[31] = letter(answer);
         entry
     }
 
-    /// The Rust's answer, which is the same with and without overflow checks.
+    /// The Rust's answer, which is the same with and without overflow checks, with the letter that it leaves out.
     fn ask(reading: Reading, p: Profile, raw: u64) -> u64 {
         assert!(domain::contains(reading, raw), "{raw:#X} is outside the domain");
         let answer = Original::new(p).read(reading, raw);
         assert_eq!(answer, Checked::new(p).read(reading, raw), "{raw:#X}");
         assert_ne!(answer, u64::MAX, "{raw:#X}: the register read is not the one of its address");
-        answer
+        Reasons::get().with_letter(answer, raw)
     }
 
     fn document(list: &mut List) {
         // thirteen words at the edges
         list.typed(System, 0xF140_22F3, &[0x05, 2, 0x14, 0x0F, 5, 0]);
-        list.typed(System, 0xF140_1073, &[0x09, 0, 2]);
-        list.typed(System, 0xF140_A2F3, &[0x09, 0, 2]);
+        list.typed(System, 0xF140_1073, &[0x09, 0, 2, b'a']);
+        list.typed(System, 0xF140_A2F3, &[0x09, 0, 2, b'a']);
         list.typed(System, 0x3A03_1073, &[0x05, 1, 0xA0, 0x03, 0, 6]);
-        list.typed(System, 0x3A13_1073, &[0x09, 0, 2]);
-        list.typed(System, 0x3F03_1073, &[0x09, 0, 2]);
+        list.typed(System, 0x3A13_1073, &[0x09, 0, 2, b'c']);
+        list.typed(System, 0x3F03_1073, &[0x09, 0, 2, b'c']);
         list.typed(System, 0x3EF3_1073, &[0x05, 1, 0xEF, 0x03, 0, 6]);
         list.typed(System, 0x12B5_0073, &[0x04, 0, 10, 11]);
         list.typed(System, 0x12B5_00F3, &[0x09, 0, 1]);
@@ -136,11 +143,11 @@ mod run {
         // bits above 31, funct3 4
         list.typed(System, 0xF110_2573, &[0x05, 2, 0x11, 0x0F, 10, 0]);
         list.typed(System, 0xF110_7573, &[0x06, 3, 0x11, 0x0F, 10, 0]);
-        list.typed(System, 0xF110_1573, &[0x09, 0, 2]);
-        list.typed(System, 0xF110_5073, &[0x09, 0, 2]);
+        list.typed(System, 0xF110_1573, &[0x09, 0, 2, b'a']);
+        list.typed(System, 0xF110_5073, &[0x09, 0, 2, b'a']);
         list.typed(System, 0x3A23_1073, &[0x05, 1, 0xA2, 0x03, 0, 6]);
         list.typed(System, 0x3AE3_1073, &[0x05, 1, 0xAE, 0x03, 0, 6]);
-        list.typed(System, 0x3AF3_1073, &[0x09, 0, 2]);
+        list.typed(System, 0x3AF3_1073, &[0x09, 0, 2, b'c']);
         list.typed(System, 0x8000_0000_1050_0073, &[0x09, 0, 1]);
         list.typed(System, 0x1_3020_0073, &[0x09, 0, 1]);
         list.typed(System, 0x1_12B5_0073, &[0x09, 0, 1]);
@@ -389,6 +396,40 @@ mod run {
         }
     }
 
+    /// Words that are refused with 2, each with its reason's letter.
+    fn reasons(list: &mut List) {
+        let mut refused = |p: Profile, letter: u8, words: &[u64]| {
+            let answer = u64::from_le_bytes([0x09, 0, 2, letter, 0, 0, 0, 0]);
+            words.iter().for_each(|raw| list.told(System, p, *raw, answer));
+        };
+        for p in [Profile::EMPTY, Profile::FULL] {
+            // writes to 0xFFF and 0xC03, where there is no register: csrrw of x1; csrrwi of 0; csrrsi and csrrci of 1
+            refused(p, b'a', &[0xFFF0_9073, 0xFFF0_50F3, 0xFFF0_E0F3, 0xFFF0_F0F3]);
+            refused(p, b'a', &[0xC030_9073, 0xC030_50F3, 0xC030_E0F3, 0xC030_F0F3]);
+            // reads of the same: csrrs of x0; csrrsi and csrrci of 0
+            refused(p, b'c', &[0xFFF0_20F3, 0xFFF0_60F3, 0xFFF0_70F3]);
+            refused(p, b'c', &[0xC030_20F3, 0xC030_60F3, 0xC030_70F3]);
+            // tdata1 read and written, and bits above 31
+            refused(p, b'c', &[0x7A10_20F3, 0x7A10_90F3, 0xDEAD_BEEF_7A10_20F3]);
+            refused(p, b'a', &[0x1_FFF0_9073, 0x8000_0000_F140_1073]);
+        }
+        // 0x7C0 and 0x7FF, the first and the last custom CSR
+        refused(Profile::EMPTY, b'b', &[0x7C00_20F3, 0x7FF0_20F3, 0x7C00_90F3, 0xDEAD_BEEF_7FF0_20F3]);
+        let all_but = |flag: u64, bit: u64| Profile { flags: 0xFF & !flag, custom: !bit };
+        refused(all_but(0, 1), b'b', &[0x7C00_20F3]);
+        refused(all_but(0, 1 << 63), b'b', &[0x7FF0_20F3]);
+        // one register behind each flag: cycle, mhpmcounter3, mseccfg, satp, hedeleg, stimecmp, vstart, seed
+        let behind = [0xC000_20F3, 0xB030_20F3, 0x7470_20F3, 0x1800_20F3, 0x6020_20F3, 0x14D0_20F3, 0x0080_20F3, 0x0150_10F3];
+        for (bit, raw) in behind.into_iter().enumerate() {
+            refused(Profile::EMPTY, b'b', &[raw]);
+            refused(all_but(1 << bit, 0), b'b', &[raw]);
+        }
+        // cycle and hgeip written, whether or not they are available
+        for p in [Profile::EMPTY, all_but(1, 0), all_but(1 << 4, 0), Profile::FULL] {
+            refused(p, b'a', &[0xC000_9073, 0xE120_9073]);
+        }
+    }
+
     /// No such hart, with each reading and with none, and no such reading, whatever the word is.
     fn spoilt(list: &mut List) {
         for raw in [0, u64::MAX, 0x1050_0073, 0xF140_22F3, 0x8005_2283, 0xFEB1_3C23, 0x4502, 0xDEAD_BEEF_0000_E002] {
@@ -416,6 +457,7 @@ mod run {
         system(&mut list, &mut random);
         memory(&mut list, &mut random);
         stack(&mut list, &mut random);
+        reasons(&mut list);
         spoilt(&mut list);
         list
     }
