@@ -25,7 +25,7 @@ module _ (a : ℕ) where
     (
       omega arith,
       ap (λ (s : Spot Row). isFound (answer fullProfile s)) e ∙ found-gated (allowsDef fullProfile (r .gate)) (r .csr)
-      ∙ holds (allowsDef fullProfile (r .gate)) (all-at (λ s. allowsDef fullProfile (s .gate)) rows-open (found-in rowIdx a rows r e)),
+          ∙ holds (allowsDef fullProfile (r .gate)) (all-at (λ s. allowsDef fullProfile (s .gate)) rows-open (found-in rowIdx a rows r e)),
     ),
   )
     where
@@ -33,9 +33,9 @@ module _ (a : ℕ) where
       holds true t = refl
       holds false t = absurd t
 
-  no-row : spotDef a ≡ nothing → SomeProfile a → ⊥
+  without-row : spotDef a ≡ nothing → SomeProfile a → ⊥
   unfolding available decodeCsrDef
-  no-row e s = false≢true (sym (ap (λ (k : Spot Row). isFound (answer (s .0) k)) e) ∙ s .1 .1)
+  without-row e s = false≢true (sym (ap (λ (k : Spot Row). isFound (answer (s .0) k)) e) ∙ s .1 .1)
 
   module _ (p : Profile) where
     abbrev Off : Type 0
@@ -52,7 +52,7 @@ module _ (a : ℕ) where
 
         step : (s : Spot Row) → spotDef a ≡ s → (answer p s ≡ GateOff) ↔ ((isFound (answer p s) ≡ false) × SomeProfile a)
         step (is r) e = (λ q. (ap isFound q, with-row r e), λ t. shut (allowsDef p (r .gate)) (r .csr) (t .0))
-        step nothing e = (λ q. absurd (let z : _≡_ {A = ℕ} 0 1 = cc in omega arith), λ t. absurd (no-row e (t .1)))
+        step nothing e = (λ q. absurd (let z : _≡_ {A = ℕ} 0 1 = cc in omega arith), λ t. absurd (without-row e (t .1)))
 
     -- "no such" exactly where no profile makes it available
     pub no-such : (decodeCsrDef p a ≡ NoSuch) ↔ ¬ SomeProfile a
@@ -65,7 +65,7 @@ module _ (a : ℕ) where
 
         step : (s : Spot Row) → spotDef a ≡ s → (answer p s ≡ NoSuch) ↔ ¬ SomeProfile a
         step (is r) e = (λ q. absurd (gated (allowsDef p (r .gate)) (r .csr) q), λ n. absurd (n (with-row r e)))
-        step nothing e = (λ _. no-row e, λ _. refl)
+        step nothing e = (λ _. without-row e, λ _. refl)
 
     -- addresses have twelve bits
     pub above : 4096 ≤ a → decodeCsrDef p a ≡ NoSuch

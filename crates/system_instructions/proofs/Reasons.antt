@@ -15,7 +15,7 @@ use Rattle.system_decoder.specs.declared.Shape.the-variants.{Wfi as wfi, Mret a
 use Rattle.system_decoder.specs.System.{always, barredDef, shapeAt}
 use Rattle.system_decoder.specs.Reasons.{letterOf, judged, legalityDef}
 use Rattle.system_decoder.proofs.Reasons.{judged-by, one-answer}
-use Rattle.system_instructions.specs.declared.IllegalRead.the-variants.{Inst as OldInst, InvalidCsrOp as OldInvalidCsrOp}
+use Rattle.system_instructions.specs.declared.IllegalRead.the-variants.{Inst as PlainInst, InvalidCsrOp as PlainInvalidCsrOp}
 use Rattle.system_instructions.specs.declared.Explained.{Explained, the-variants.Inst, the-variants.InvalidCsrOp}
 use Rattle.system_instructions.specs.Instruction.{instOf, instAt, readShape, illegalDef}
 use Rattle.system_instructions.specs.Grounds.{CsrForm, address}
@@ -30,7 +30,7 @@ drop-at p sret = refl
 drop-at p (fence f x y) = refl
 drop-at p (access o m n d x) =
     judged-by withoutReason (λ r. Inst (instOf o m r d x)) InvalidCsrOp (barredDef n (always o) x) (decodeCsrDef p n)
-    ∙ one-answer (λ r. OldInst (instOf o m r d x)) OldInvalidCsrOp (barredDef n (always o) x) (decodeCsrDef p n)
+    ∙ one-answer (λ r. PlainInst (instOf o m r d x)) PlainInvalidCsrOp (barredDef n (always o) x) (decodeCsrDef p n)
 
 pub dropping : (p : Profile) (w : ℕ) → withoutReason (explainedDef p w) ≡ illegalDef p w
 unfolding explainedDef illegalDef

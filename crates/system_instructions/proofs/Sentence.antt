@@ -58,8 +58,8 @@ module _ (w : ℕ) (f : CsrForm w) where
   pub barred : (test ≡ true) ↔ (ReadOnly (address w) × Writes w)
   barred = (
     λ q.
-    let d = both (readOnly (address w)) (always (six .0) || not (eqb (fld w 15 5) 0)) q in
-    (eqb-true (fld (address w) 10 2) 3 (d .0), writes (six .0) (fld w 12 2) (fld w 15 5) op (d .1)),
+        let d = both (readOnly (address w)) (always (six .0) || not (eqb (fld w 15 5) 0)) q in
+        (eqb-true (fld (address w) 10 2) 3 (d .0), writes (six .0) (fld w 12 2) (fld w 15 5) op (d .1)),
     λ q. join (eq-eqb (fld (address w) 10 2) 3 (q .0)) (written (six .0) (fld w 12 2) (fld w 15 5) op (q .1)),
   )
 

@@ -14,7 +14,7 @@ use Rattle.system_decoder.specs.System.{shapeAt}
 use Rattle.system_decoder.specs.Reasons.{letterOf, judgedDef}
 use Rattle.system_instructions.specs.declared.IllegalInst.the-variants.{Wfi, Mret, Sret}
 use Rattle.system_instructions.specs.declared.IllegalRead.{IllegalRead}
-use Rattle.system_instructions.specs.declared.IllegalRead.the-variants.{Inst as OldInst, Unknown as OldUnknown, InvalidCsrOp as OldInvalidCsrOp}
+use Rattle.system_instructions.specs.declared.IllegalRead.the-variants.{Inst as PlainInst, Unknown as PlainUnknown, InvalidCsrOp as PlainInvalidCsrOp}
 use Rattle.system_instructions.specs.declared.Explained.{Explained}
 use Rattle.system_instructions.specs.declared.Explained.the-variants.{Inst, Unknown, InvalidCsrOp}
 use Rattle.system_instructions.specs.Instruction.{instOf, fenceOf}
@@ -26,7 +26,7 @@ explainedAt p wfi = Inst Wfi
 explainedAt p mret = Inst Mret
 explainedAt p sret = Inst Sret
 explainedAt p (fence f x y) = Inst (fenceOf f x y)
-explainedAt p (access o m address d x) = judgedDef (λ r. Inst (instOf o m r d x)) InvalidCsrOp p o address x
+explainedAt p (access o m n d x) = judgedDef (λ r. Inst (instOf o m r d x)) InvalidCsrOp p o n x
 
 abbrev pub explainedShape : Profile → Answer Shape → Explained
 explainedShape p (value s) = explainedAt p s
@@ -38,9 +38,9 @@ explainedDef p w = explainedShape p (shapeAt w)
 
 -- the same without the reason
 abbrev pub withoutReason : Explained → IllegalRead
-withoutReason (Inst i) = OldInst i
-withoutReason (InvalidCsrOp r) = OldInvalidCsrOp
-withoutReason Unknown = OldUnknown
+withoutReason (Inst i) = PlainInst i
+withoutReason (InvalidCsrOp r) = PlainInvalidCsrOp
+withoutReason Unknown = PlainUnknown
 
 -- ---- the reasons of a word in CSR form, each by what it says
 abbrev pub ReadOnlyWrite : ℕ → Type 0

@@ -10,4 +10,5 @@ without-reason-spec =
     (tie.spec
     (λ c. search needs) (λ c. search needs) (λ c. search needs)
     (λ c. ap withoutReason (sym (c .before .self .given .1)))
-    (λ c. search needs) (λ c. search needs))
+    (λ c. ap withoutReason (sym (c .enum-told .given .1)))
+    (λ c. ap withoutReason (sym (c .enum-told2 .given .1))))
