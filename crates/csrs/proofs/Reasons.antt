@@ -1,5 +1,5 @@
 -- Document 02, no. 4: the look-up's two ways to say no, over all profiles. Assumes nothing.
-use Rattle.utils.proofs.Prelude.{_≡_, refl, sym, ap, _∙_, ⊎-elim, _↔_, Bool, true, false, false≢true, ℕ, _^_, _<_, _≤_, arith, T}
+use Rattle.utils.proofs.Prelude.{_≡_, refl, sym, ap, _∙_, _↔_, Bool, true, false, false≢true, ℕ, _≤_, arith, T}
 use Rattle.csr_addresses.specs.declared.Csr.{Csr}
 use Rattle.csr_addresses.specs.Find.{Spot, is, nothing}
 use Rattle.utils.proofs.Members.{all, all-at}
@@ -38,11 +38,8 @@ module _ (a : ℕ) where
   without-row e s = false≢true (sym (ap (λ (k : Spot Row). isFound (answer (s .0) k)) e) ∙ s .1 .1)
 
   module _ (p : Profile) where
-    abbrev Off : Type 0
-    Off = (available p a ≡ false) × SomeProfile a
-
     -- "gate off" exactly where the address is not available here and some profile makes it available
-    pub gate-off : (decodeCsrDef p a ≡ GateOff) ↔ Off
+    pub gate-off : (decodeCsrDef p a ≡ GateOff) ↔ ((available p a ≡ false) × SomeProfile a)
     unfolding available decodeCsrDef
     gate-off = step (spotDef a) refl
       where

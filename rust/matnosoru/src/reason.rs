@@ -14,7 +14,7 @@ use crate::{Csr, abi};
 ///
 /// assert_eq!(Reason::ReadOnly { address: 0xF14 }.to_string(), "mhartid is read-only and would be written");
 /// assert_eq!(Reason::GateOff { address: 0x180 }.to_string(), "satp is there only with supervisor mode");
-/// assert_eq!(Reason::NoSuch { address: 0xFFF }.to_string(), "there is no CSR at 0xfff");
+/// assert_eq!(Reason::NoSuch { address: 0xFFF }.to_string(), "no profile has a CSR at 0xfff");
 /// ```
 #[derive(Clone, Copy, Debug, PartialEq, Eq, Hash)]
 #[non_exhaustive]
@@ -79,8 +79,8 @@ impl fmt::Display for Reason {
                 Some(gate) => write!(f, "{csr} is there only with {gate}"),
                 None => write!(f, "{csr} is not there under this profile"),
             },
-            (Reason::NoSuch { .. }, Some(csr)) => write!(f, "{csr} ({address:#05x}) is not there under any profile"),
-            (_, None) => write!(f, "there is no CSR at {address:#05x}"),
+            (Reason::NoSuch { .. }, Some(csr)) => write!(f, "no profile has {csr} ({address:#05x})"),
+            (_, None) => write!(f, "no profile has a CSR at {address:#05x}"),
         }
     }
 }

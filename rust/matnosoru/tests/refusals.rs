@@ -140,9 +140,9 @@ fn reasons_in_words() {
         (EMPTY, 0x015, 1, 'b', "seed is there only with the scalar crypto extension"),
         (EMPTY, 0x7C5, 0, 'b', "custom CSR 0x7c5 is there only with bit 5 of the custom mask"),
         (EMPTY, 0x7FF, 1, 'b', "custom CSR 0x7ff is there only with bit 63 of the custom mask"),
-        (full, 0x7A1, 0, 'c', "tdata1 (0x7a1) is not there under any profile"),
-        (full, 0xFFF, 0, 'c', "there is no CSR at 0xfff"),
-        (full, 0x001, 1, 'c', "there is no CSR at 0x001"),
+        (full, 0x7A1, 0, 'c', "no profile has tdata1 (0x7a1)"),
+        (full, 0xFFF, 0, 'c', "no profile has a CSR at 0xfff"),
+        (full, 0x001, 1, 'c', "no profile has a CSR at 0x001"),
     ] {
         let raw = access(2, address, 1, source);
         let reason = reason(profile, raw);
