@@ -18,8 +18,8 @@ use Rattle.system_decoder.proofs.Reasons.{judged-by, one-answer}
 use Rattle.system_instructions.specs.declared.IllegalRead.the-variants.{Inst as PlainInst, InvalidCsrOp as PlainInvalidCsrOp}
 use Rattle.system_instructions.specs.declared.Explained.{Explained, the-variants.Inst, the-variants.InvalidCsrOp}
 use Rattle.system_instructions.specs.Instruction.{instOf, instAt, readShape, illegalDef}
-use Rattle.system_instructions.specs.Grounds.{CsrForm, address}
-use Rattle.system_instructions.specs.Reasons.{explainedAt, explainedShape, explainedDef, withoutReason, ReadOnlyWrite, Because, letterIn}
+use Rattle.system_instructions.specs.Grounds.{CsrForm, address, ReadOnlyWrite}
+use Rattle.system_instructions.specs.Reasons.{explainedAt, explainedShape, explainedDef, withoutReason, Because, letterIn}
 use Rattle.system_instructions.proofs.Sentence.{six, csr-shape, test, barred}
 
 -- ---- dropping the reason gives the old answer, for every profile and every word

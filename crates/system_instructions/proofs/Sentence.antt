@@ -11,7 +11,7 @@ use Rattle.system_decoder.specs.declared.Shape.the-variants.{Access as access}
 use Rattle.system_decoder.specs.System.{opCode, funct3, readOnly, always, barredDef, shapeAt}
 use Rattle.forms.specs.Answer.{value}
 use Rattle.system_instructions.specs.Instruction.{illegalDef, numberOf}
-use Rattle.system_instructions.specs.Grounds.{CsrForm, address, Writes, ReadOnly, Grounds, Invalid}
+use Rattle.system_instructions.specs.Grounds.{CsrForm, address, ReadOnlyWrite, Grounds, Invalid}
 use Rattle.system_decoder.proofs.SystemForms.{past-wholes, unfit-csr, at-access, one-of-six, op-of, low-two}
 use Rattle.system_instructions.proofs.Numbers.{with-shape}
 
@@ -55,7 +55,7 @@ module _ (w : ℕ) (f : CsrForm w) where
   abbrev pub test : Bool
   test = barredDef (address w) (always (six .0)) (fld w 15 5)
 
-  pub barred : (test ≡ true) ↔ (ReadOnly (address w) × Writes w)
+  pub barred : (test ≡ true) ↔ ReadOnlyWrite w
   barred = (
     λ q.
         let d = both (readOnly (address w)) (always (six .0) || not (eqb (fld w 15 5) 0)) q in

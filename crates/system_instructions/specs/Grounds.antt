@@ -26,9 +26,13 @@ Writes w = (fld w 12 2 ≡ 1) ⊎ ¬ (fld w 15 5 ≡ 0)
 abbrev pub ReadOnly : ℕ → Type 0
 ReadOnly a = fld a 10 2 ≡ 3
 
+-- it would write a read-only one
+abbrev pub ReadOnlyWrite : ℕ → Type 0
+ReadOnlyWrite w = ReadOnly (address w) × Writes w
+
 -- the address names no available register, or it would write a read-only one
 abbrev pub Grounds : Profile → ℕ → Type 0
-Grounds p w = (available p (address w) ≡ false) ⊎ (ReadOnly (address w) × Writes w)
+Grounds p w = (available p (address w) ≡ false) ⊎ ReadOnlyWrite w
 
 -- refused as InvalidCsrOp
 abbrev pub Invalid : Profile → ℕ → Type 0

@@ -18,7 +18,7 @@ use Rattle.system_instructions.specs.declared.IllegalRead.the-variants.{
 use Rattle.system_instructions.specs.declared.Explained.{Explained}
 use Rattle.system_instructions.specs.declared.Explained.the-variants.{Inst, Unknown, InvalidCsrOp}
 use Rattle.system_instructions.specs.Instruction.{instOf, fenceOf}
-use Rattle.system_instructions.specs.Grounds.{address, Writes, ReadOnly}
+use Rattle.system_instructions.specs.Grounds.{address, ReadOnlyWrite}
 
 -- what a profile makes of a shape
 abbrev pub explainedAt : Profile → Shape → Explained
@@ -43,9 +43,6 @@ withoutReason (InvalidCsrOp r) = PlainInvalidCsrOp
 withoutReason Unknown = PlainUnknown
 
 -- ---- the reasons of a word in CSR form, each by what it says
-abbrev pub ReadOnlyWrite : ℕ → Type 0
-ReadOnlyWrite w = ReadOnly (address w) × Writes w
-
 abbrev pub Because : Profile → ℕ → Reason → Type 0
 Because p w a = ReadOnlyWrite w
 Because p w b = ¬ ReadOnlyWrite w × ((available p (address w) ≡ false) × SomeProfile (address w))
