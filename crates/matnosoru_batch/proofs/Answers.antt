@@ -30,10 +30,11 @@ module _ (table words harts readings out : List ℕ) where
       pub no-table : {r : ℕ} → (length table ≡ 80 → ⊥) → r ≡ 14 * 2 ^ 32 → Answered r out
       no-table t = refused {n = 14} (simp (eq-eqb (length words) (length harts) h, eq-eqb (length words) (length readings) d, ne-eqb (length table) 80 t))
 
+      -- a table of eighty bytes is handed on
+      pub handed-on : length table ≡ 80 → answer ≡ batchedDef (length words) (length harts) (length readings) (length out)
+      handed-on t = simp (eq-eqb (length words) (length harts) h, eq-eqb (length words) (length readings) d, eq-eqb (length table) 80 t)
+
       -- the answer of the batch, for the table that was made of the bytes
       pub made : length table ≡ 80 → {k b : Batched} {u : Table} {r : ℕ} {after : List ℕ} → r ≡ slots-or k → b ≡ k → u ≡ tableOf table
           → b ≡ batchedDef (length words) (length harts) (length readings) (length out) → after ≡ batchedOut u words harts readings out → Answered r after
-      made t q e f g o =
-          let whole : answer ≡ batchedDef (length words) (length harts) (length readings) (length out) =
-          simp (eq-eqb (length words) (length harts) h, eq-eqb (length words) (length readings) d, eq-eqb (length table) 80 t) in
-          (q ∙ ap slots-or (sym e ∙ g ∙ sym whole), o ∙ (λ j. leaves (sym whole j) (f j) words harts readings out))
+      made t q e f g o = (q ∙ ap slots-or (sym e ∙ g ∙ sym (handed-on t)), o ∙ (λ j. leaves (sym (handed-on t) j) (f j) words harts readings out))

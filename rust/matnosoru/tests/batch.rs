@@ -1,4 +1,5 @@
-//! Many trapped words in one call: each slot is that of the single call, the refusals, and slots read back.
+//! Many trapped words in one call: each slot is that of the single call, the refusals, slots read back, and one hart's slots in two
+//! nights that differ in everything else.
 
 use std::collections::BTreeMap;
 
@@ -95,30 +96,114 @@ fn sorts() -> Vec<[u8; 3]> {
     sorts
 }
 
+/// What the batch is handed, but for the output.
+struct Night {
+    profiles: [Profile; 8],
+    words: Vec<u64>,
+    harts: Vec<u8>,
+    readings: Vec<u8>,
+}
+
+impl Night {
+    fn new(profiles: [Profile; 8], traps: &[(u64, u8, u8)]) -> Night {
+        let words = traps.iter().map(|trap| trap.0).collect();
+        let harts = traps.iter().map(|trap| trap.1).collect();
+        let readings = traps.iter().map(|trap| trap.2).collect();
+        Night { profiles, words, harts, readings }
+    }
+
+    fn random(count: usize, random: &mut Random) -> Night {
+        Night::new(profiles(), &(0..count).map(|_| trap(random)).collect::<Vec<_>>())
+    }
+
+    /// Another night with the same harts. One hart has the same words, readings and profile; every other hart has the flags and custom
+    /// CSRs that it lacked, and other words and readings.
+    fn but_for(&self, own: u8, random: &mut Random) -> Night {
+        let mut profiles = self.profiles.map(|profile| Profile::from_flags(!profile.flags(), !profile.custom));
+        profiles[own as usize] = self.profiles[own as usize];
+        let traps = self.harts.iter().enumerate().map(|(i, &hart)| match trap(random) {
+            _ if hart == own => (self.words[i], hart, self.readings[i]),
+            (word, _, reading) => (word, hart, reading),
+        });
+        Night::new(profiles, &traps.collect::<Vec<_>>())
+    }
+
+    /// The slots, in an output that was full of a byte and has room for some more, which stay.
+    fn slots(&self, before: u8, more: usize) -> Vec<Slot> {
+        let count = self.words.len();
+        let mut out = vec![[before; abi::SLOT_LENGTH]; count + more];
+        assert_eq!(Profile::batch(&self.profiles, &self.words, &self.harts, &self.readings, &mut out), Ok(count));
+        assert_eq!(out.split_off(count), vec![[before; abi::SLOT_LENGTH]; more]);
+        out
+    }
+}
+
 /// A million words over eight harts: each slot is the single call's, every sort of slot and every byte as a hart and as a reading comes
 /// up, and the slots after the last stay.
 #[test]
 fn night() {
     const COUNT: usize = 1_000_000;
-    let (profiles, mut random) = (profiles(), Random(2));
-    let traps: Vec<(u64, u8, u8)> = (0..COUNT).map(|_| trap(&mut random)).collect();
-    let words: Vec<u64> = traps.iter().map(|trap| trap.0).collect();
-    let harts: Vec<u8> = traps.iter().map(|trap| trap.1).collect();
-    let readings: Vec<u8> = traps.iter().map(|trap| trap.2).collect();
-    let mut out = vec![[0xEE; abi::SLOT_LENGTH]; COUNT + 2];
-    assert_eq!(Profile::batch(&profiles, &words, &harts, &readings, &mut out), Ok(COUNT));
-    assert_eq!(out[COUNT..], [[0xEE; abi::SLOT_LENGTH]; 2]);
+    let night = Night::random(COUNT, &mut Random(2));
     let mut counts = BTreeMap::new();
-    for ((raw, hart, reading), slot) in traps.into_iter().zip(&out) {
-        assert_eq!(*slot, single(&profiles, raw, hart, reading), "{raw:#x}, hart {hart}, reading {reading}");
+    for (i, slot) in night.slots(0xEE, 2).iter().enumerate() {
+        let (raw, hart, reading) = (night.words[i], night.harts[i], night.readings[i]);
+        assert_eq!(*slot, single(&night.profiles, raw, hart, reading), "{raw:#x}, hart {hart}, reading {reading}");
         *counts.entry(sort(slot)).or_insert(0) += 1;
     }
     assert!(counts.keys().eq(&sorts()), "{counts:?}");
     let spoilt: usize = counts.iter().filter(|(sort, _)| sort[2] > 14).map(|(_, count)| count).sum();
     assert!((COUNT / 20..COUNT / 4).contains(&spoilt), "{spoilt}");
     for byte in 0..=255 {
-        assert!(harts.contains(&byte) && readings.contains(&byte), "{byte}");
+        assert!(night.harts.contains(&byte) && night.readings.contains(&byte), "{byte}");
     }
+}
+
+/// Two nights with the same harts: the slots of a hart whose words, readings and profile agree are the same, byte for byte, whatever else
+/// differs. For each hart there are slots that its neighbour's profile would change, and the other harts' slots do change.
+#[test]
+fn apart() {
+    const COUNT: usize = 100_000;
+    let mut random = Random(5);
+    let one = Night::random(COUNT, &mut random);
+    let slots = one.slots(0x00, 0);
+    for hart in 0..8 {
+        let other = one.but_for(hart, &mut random);
+        let others = other.slots(0xEE, 3);
+        let (mut telling, mut changed) = (0, 0);
+        for i in 0..COUNT {
+            if one.harts[i] != hart {
+                changed += usize::from(slots[i] != others[i]);
+                continue;
+            }
+            assert_eq!(slots[i], others[i], "hart {hart}, entry {i}");
+            let [before, after] = [7, 1].map(|step| single(&other.profiles, one.words[i], (hart + step) % 8, one.readings[i]));
+            telling += usize::from(slots[i] != before && slots[i] != after);
+        }
+        assert!(telling > COUNT / 2000 && changed > COUNT / 2, "hart {hart}: {telling} telling, {changed} changed");
+    }
+}
+
+/// The bytes that were in the output and its length change no slot.
+#[test]
+fn old_bytes_gone() {
+    let night = Night::random(10_000, &mut Random(6));
+    let slots = night.slots(0x00, 0);
+    for (before, more) in [(0x00, 1), (0xEE, 0), (0xFF, 100), (0x09, 7)] {
+        assert_eq!(slots, night.slots(before, more), "{before:#x}, {more} more");
+    }
+}
+
+/// A slot of a hart above 7 is made of its word and its reading alone: at another place, of another such hart, under other profiles it is
+/// the same.
+#[test]
+fn above_7() {
+    let mut random = Random(7);
+    let traps: Vec<(u64, u8, u8)> = (8..=255).map(|hart| (word(&mut random), hart, random.below(5) as u8)).collect();
+    let others: Vec<(u64, u8, u8)> = traps.iter().rev().map(|&(word, hart, reading)| (word, 8 + (255 - hart), reading)).collect();
+    let (one, other) = (Night::new(profiles(), &traps), Night::new([Profile::EMPTY; 8], &others));
+    let mut slots = other.slots(0xEE, 1);
+    slots.reverse();
+    assert_eq!(one.slots(0x00, 0), slots);
 }
 
 /// The answer for lists of zeros and an output of these lengths, where the first bytes of the output are as many of these slots.
@@ -145,6 +230,23 @@ fn refusals() {
     }
     for (count, room) in [(1, 0), (1, 11), (2, 12), (2, 23), (1000, 11_999)] {
         assert_eq!(answer(80, [count; 3], room, &[]), 14 << 32, "{count} words, room {room}");
+    }
+}
+
+/// The answer goes by the lengths alone: with any contents it is that of zeros. A refusal leaves every byte of the output, whatever they are.
+#[test]
+fn lengths_alone() {
+    let mut random = Random(8);
+    for (i, room) in (0..4 * 4 * 4 * 2).flat_map(|i| [0, 11, 12, 23, 24, 35, 36, 37].map(|room| (i, room))) {
+        let (table, lists) = (80 - i % 2, [i / 2 % 4, i / 8 % 4, i / 32 % 4]);
+        let mut bytes = |n: usize| (0..n).map(|_| random.next() as u8).collect::<Vec<u8>>();
+        let [words, harts, readings] = lists;
+        let (profiles, harts, readings, before) = (bytes(table), bytes(harts), bytes(readings), bytes(room));
+        let words: Vec<u64> = (0..words).map(|_| random.next()).collect();
+        let (mut zeros, mut out) = (vec![0; room], before.clone());
+        let zeros = abi::batch(&vec![0; table], &vec![0; words.len()], &vec![0; harts.len()], &vec![0; readings.len()], &mut zeros);
+        assert_eq!(abi::batch(&profiles, &words, &harts, &readings, &mut out), zeros, "{lists:?}, table {table}, room {room}");
+        assert!(zeros >> 32 == 0 || out == before, "{lists:?}, table {table}, room {room}");
     }
 }
 

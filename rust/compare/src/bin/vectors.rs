@@ -7,8 +7,9 @@
 //! The first entries are document 01's own words, with the answers typed in by hand as the document has them. Where the Rust's answer
 //! is the wanted one too, it is held to the typed one. Then come the Rust's own answers. After them come words with low two bits
 //! 10, which the Rust does not read: their answers are the fields that the words are made of. Then come words that are refused with 2,
-//! the letters of the reasons typed in by hand. All these have the harts 0 to 7 in turn. The last entries have no such hart or no such
-//! reading, and document 02's records for that.
+//! the letters of the reasons typed in by hand. All these have the harts 0 to 7 in turn. Then each hart has each gate open alone and
+//! closed alone, so that its neighbour's profile would change the answer. The last entries have no such hart or no such reading, and
+//! document 02's records for that.
 //!
 //! The Rust gives no reasons. A letter follows from the word and from the Rust's look-up (`compare::reasons`), and a typed one is held to
 //! that.
@@ -44,7 +45,7 @@ mod run {
     use compare::sides::{Checked, Original, Side};
     use compare::{Profile, domain, letter, refusal};
 
-    /// The list so far. An input is in it once, whichever hart below 8 it has.
+    /// The list so far. What is pushed by `push` is in it once, whichever hart below 8 it has.
     #[derive(Default)]
     pub struct List {
         entries: Vec<[u8; 32]>,
@@ -396,6 +397,9 @@ mod run {
         }
     }
 
+    /// A word for each flag, whose register waits for it: cycle, mhpmcounter3, mseccfg, satp, hedeleg, stimecmp, vstart, seed.
+    const BEHIND: [u64; 8] = [0xC000_20F3, 0xB030_20F3, 0x7470_20F3, 0x1800_20F3, 0x6020_20F3, 0x14D0_20F3, 0x0080_20F3, 0x0150_10F3];
+
     /// Words that are refused with 2, each with its reason's letter.
     fn reasons(list: &mut List) {
         let mut refused = |p: Profile, letter: u8, words: &[u64]| {
@@ -418,15 +422,29 @@ mod run {
         let all_but = |flag: u64, bit: u64| Profile { flags: 0xFF & !flag, custom: !bit };
         refused(all_but(0, 1), b'b', &[0x7C00_20F3]);
         refused(all_but(0, 1 << 63), b'b', &[0x7FF0_20F3]);
-        // one register behind each flag: cycle, mhpmcounter3, mseccfg, satp, hedeleg, stimecmp, vstart, seed
-        let behind = [0xC000_20F3, 0xB030_20F3, 0x7470_20F3, 0x1800_20F3, 0x6020_20F3, 0x14D0_20F3, 0x0080_20F3, 0x0150_10F3];
-        for (bit, raw) in behind.into_iter().enumerate() {
+        for (bit, raw) in BEHIND.into_iter().enumerate() {
             refused(Profile::EMPTY, b'b', &[raw]);
             refused(all_but(1 << bit, 0), b'b', &[raw]);
         }
         // cycle and hgeip written, whether or not they are available
         for p in [Profile::EMPTY, all_but(1, 0), all_but(1 << 4, 0), Profile::FULL] {
             refused(p, b'a', &[0xC000_9073, 0xE120_9073]);
+        }
+    }
+
+    /// Each hart with each gate open alone, where the word is read, and closed alone, where it is not: the eight flags, the first and the
+    /// last custom CSR.
+    fn gates(list: &mut List) {
+        let flags = BEHIND.into_iter().enumerate().map(|(bit, raw)| (raw, Profile { flags: 1 << bit, custom: 0 }));
+        let custom = [(0x7C00_20F3, 0), (0x7FF0_20F3, 63)].map(|(raw, bit)| (raw, Profile { flags: 0, custom: 1 << bit }));
+        for (raw, open) in flags.chain(custom) {
+            let closed = Profile { flags: 0xFF ^ open.flags, custom: !open.custom };
+            let (read, refused) = (ask(System, open, raw), ask(System, closed, raw));
+            assert!(refusal(read).is_none() && refusal(refused) == Some(2), "{raw:#X}");
+            for hart in 0..8 {
+                list.entries.push(entry(System as u8, open, raw, read, hart));
+                list.entries.push(entry(System as u8, closed, raw, refused, hart));
+            }
         }
     }
 
@@ -458,6 +476,7 @@ mod run {
         memory(&mut list, &mut random);
         stack(&mut list, &mut random);
         reasons(&mut list);
+        gates(&mut list);
         spoilt(&mut list);
         list
     }
