@@ -178,9 +178,12 @@ uint64_t matnosoru_write_profile(uint64_t hart, uint64_t flags, uint64_t custom,
  * first. A hart above 7 makes a record of kind 9 with number 15 and the reading given, or 3 if that is above 2. Otherwise a reading
  * above 2 makes one with reading 3 and number 16.
  *
+ * The slots of a hart depend on its own words, readings and profile alone, and those of a hart above 7 on words and readings alone:
+ * nothing of another hart shows in them, nor what was in `out`.
+ *
  * The answer is the number of slots (its low 32 bits). The bytes of `out` after the last slot stay as they are. Or the refusal, with
  * `out` unchanged: 17 where the three lists are not of one length, then 14 where `table_len` is not MATNOSORU_TABLE_LENGTH, then 14
- * where `out` is shorter than the slots. */
+ * where `out` is shorter than the slots. The refusals depend on the lengths alone. */
 uint64_t matnosoru_batch(const uint8_t *table, size_t table_len, const uint64_t *words, size_t words_len, const uint8_t *harts,
                          size_t harts_len, const uint8_t *readings, size_t readings_len, uint8_t *out, size_t out_len);
 

@@ -159,7 +159,7 @@ fn night() {
 }
 
 /// Two nights with the same harts: the slots of a hart whose words, readings and profile agree are the same, byte for byte, whatever else
-/// differs. For each hart there are slots that its neighbour's profile would change, and the other harts' slots do change.
+/// differs. Each other hart's profile, read by mistake for some of these words, would make the nights differ; and the other harts' slots do.
 #[test]
 fn apart() {
     const COUNT: usize = 100_000;
@@ -169,17 +169,20 @@ fn apart() {
     for hart in 0..8 {
         let other = one.but_for(hart, &mut random);
         let others = other.slots(0xEE, 3);
-        let (mut telling, mut changed) = (0, 0);
+        let (mut telling, mut changed) = ([0; 8], 0);
         for i in 0..COUNT {
             if one.harts[i] != hart {
                 changed += usize::from(slots[i] != others[i]);
                 continue;
             }
             assert_eq!(slots[i], others[i], "hart {hart}, entry {i}");
-            let [before, after] = [7, 1].map(|step| single(&other.profiles, one.words[i], (hart + step) % 8, one.readings[i]));
-            telling += usize::from(slots[i] != before && slots[i] != after);
+            for wrong in 0..8 {
+                let [first, second] = [&one, &other].map(|night| single(&night.profiles, one.words[i], wrong, one.readings[i]));
+                telling[wrong as usize] += usize::from(first != second);
+            }
         }
-        assert!(telling > COUNT / 2000 && changed > COUNT / 2, "hart {hart}: {telling} telling, {changed} changed");
+        let shows = |wrong: usize| telling[wrong] > COUNT / 1000 || wrong == hart as usize && telling[wrong] == 0;
+        assert!((0..8).all(shows) && changed > COUNT / 2, "hart {hart}: {telling:?}, {changed} changed");
     }
 }
 
