@@ -45,7 +45,7 @@ mod run {
     use compare::sides::{Checked, Original, Side};
     use compare::{Profile, domain, letter, refusal};
 
-    /// The list so far. What is pushed by `push` is in it once, whichever hart below 8 it has.
+    /// The list so far. An input that `push` adds is in it once, and the harts 0 to 7 take turns.
     #[derive(Default)]
     pub struct List {
         entries: Vec<[u8; 32]>,
