@@ -12,7 +12,8 @@ two-nights-spec =
     (λ c.
     let second = c .before .before in
     let first = second .before .before .before .before in
-    let a = first .before .before .before .before .before .before .before .before .before .args in
+    let lent = first .before .before .before .before in
+    let a = lent .before .before .before .before .before .args in
     let left = first .batch .ensures .1 in
     let left2 = second .batch2 .ensures .1 in
     (left, (left2, (λ hart. apart hart (now (a .harts)) (a .t) (a .u) (now (a .words)) (now (a .words2)) (now (a .readings)) (now (a .readings2)) (now (a .out)) (now (a .out2)) left left2)))))
