@@ -178,8 +178,8 @@ uint64_t matnosoru_write_profile(uint64_t hart, uint64_t flags, uint64_t custom,
  * first. A hart above 7 makes a record of kind 9 with number 15 and the reading given, or 3 if that is above 2. Otherwise a reading
  * above 2 makes one with reading 3 and number 16.
  *
- * The slots of a hart depend on its own words, readings and profile alone, and those of a hart above 7 on words and readings alone:
- * nothing of another hart shows in them, nor what was in `out`.
+ * The slots of a hart depend on its own words, readings and profile alone, and those of a hart above 7 on words and readings alone.
+ * Nothing of another hart shows in them, and nothing that was in `out`.
  *
  * The answer is the number of slots (its low 32 bits). The bytes of `out` after the last slot stay as they are. Or the refusal, with
  * `out` unchanged: 17 where the three lists are not of one length, then 14 where `table_len` is not MATNOSORU_TABLE_LENGTH, then 14

@@ -11,7 +11,8 @@ impl Profile {
     /// 1 [`decode_load`](Profile::decode_load), 2 [`decode_store`](Profile::decode_store)) under the profile of the hart `harts[i]`. What
     /// is no hart or no reading makes a record too, with the refusal 15 or 16.
     ///
-    /// A hart's slots depend on its own words, readings and profile alone: nothing of another hart shows in them, nor what was in `out`.
+    /// A hart's slots depend on its own words, readings and profile alone. Nothing of another hart shows in them, and nothing that was in
+    /// `out`.
     ///
     /// Refusals: 17 for lists that are not of one length, then 14 for fewer slots than words. `out` is then unchanged. They depend on the
     /// lengths alone.
