@@ -55,7 +55,7 @@ extern "C" {
 
 /* The number of this header. It is raised when an answer, a length or a function here changes. An archive fits where
  * matnosoru_version() answers the same. */
-#define MATNOSORU_VERSION 5
+#define MATNOSORU_VERSION 4
 
 /* The most bytes that a record has. */
 #define MATNOSORU_LONGEST_RECORD 11
@@ -102,13 +102,13 @@ extern "C" {
 /* Refusals. */
 enum matnosoru_refusal {
     MATNOSORU_UNKNOWN = 1,        /* SYSTEM reading: no such instruction */
-    MATNOSORU_INVALID_CSR_OP = 2, /* SYSTEM reading: the CSR or the access to it is not allowed (enum matnosoru_reason) */
+    MATNOSORU_INVALID_CSR_OP = 2, /* SYSTEM reading: the CSR is not available, or is read-only and written (enum matnosoru_reason) */
     MATNOSORU_NOT_THE_FORM = 3,   /* load or store reading: not such a form */
     MATNOSORU_WIDTH = 4,          /* load funct3 7, store funct3 4 to 7 */
     MATNOSORU_STACK_FORM = 5,     /* load or store reading: low two bits 10, and no stack-based form of the reading */
     MATNOSORU_REGISTER = 6,       /* writing: a register or an immediate of a CSR form above 31 */
     MATNOSORU_CSR = 7,            /* no address of its own, or the CSR is not available */
-    MATNOSORU_READ_ONLY = 8,      /* writing: the CSR operation writes a read-only CSR, or reads seed and does not write it */
+    MATNOSORU_READ_ONLY = 8,      /* writing: the CSR operation writes a read-only CSR */
     MATNOSORU_NO_FORM = 9,        /* writing: no form with this width, sign, compression and registers */
     MATNOSORU_IMMEDIATE = 10,     /* writing: immediate outside the form's range or step */
     MATNOSORU_RECORD_KIND = 11,   /* log: the kind byte is not one of those listed */
@@ -120,13 +120,11 @@ enum matnosoru_refusal {
     MATNOSORU_LIST_LENGTHS = 17   /* the lists are not of one length */
 };
 
-/* Why the SYSTEM reading refuses with MATNOSORU_INVALID_CSR_OP. The first is given wherever it holds, also where there is no CSR; the
- * last only where seed is available. */
+/* Why the SYSTEM reading refuses with MATNOSORU_INVALID_CSR_OP. The first is given wherever it holds, also where there is no CSR. */
 enum matnosoru_reason {
-    MATNOSORU_REASON_READ_ONLY = 'a',     /* the access writes, and the address is a read-only one: its bits 11 and 10 are both one */
-    MATNOSORU_REASON_GATE_OFF = 'b',      /* some profile makes the CSR available, and this one does not */
-    MATNOSORU_REASON_NO_SUCH = 'c',       /* no profile makes a CSR available at this address */
-    MATNOSORU_REASON_SEED_UNWRITTEN = 'd' /* a set or clear of nothing reads seed (0x015), which must be written to be read */
+    MATNOSORU_REASON_READ_ONLY = 'a', /* the access writes, and the address is a read-only one: its bits 11 and 10 are both one */
+    MATNOSORU_REASON_GATE_OFF = 'b',  /* some profile makes the CSR available, and this one does not */
+    MATNOSORU_REASON_NO_SUCH = 'c'    /* no profile makes a CSR available at this address */
 };
 
 /* What matnosoru_csr_lookup answers. */

@@ -185,25 +185,10 @@ static void hold_lookups(void) {
     hold_lookup(0xFF, all, 0x7A1, MATNOSORU_NO_SUCH, MATNOSORU_REASON_NO_SUCH);
     hold_lookup(0xFF, all, 0xC03, MATNOSORU_NO_SUCH, MATNOSORU_REASON_NO_SUCH);
     hold_lookup(0xFF, all, 0xFFF, MATNOSORU_NO_SUCH, MATNOSORU_REASON_NO_SUCH);
-    hold_lookup(0x80, 0, 0x015, MATNOSORU_AVAILABLE, MATNOSORU_REASON_SEED_UNWRITTEN);
-    hold_lookup(0x7F, all, 0x015, MATNOSORU_GATE_OFF, MATNOSORU_REASON_GATE_OFF);
     HOLD(matnosoru_csr_lookup(0xFF, all, 4096), MATNOSORU_NO_SUCH);
     HOLD(matnosoru_csr_lookup(0xFF, all, (uint64_t)1 << 32 | 0x300), MATNOSORU_NO_SUCH);
     HOLD(matnosoru_csr_lookup(0xFF, all, all), MATNOSORU_NO_SUCH);
     HOLD(MATNOSORU_REASON(matnosoru_read_system(0xFF, all, 0xF1401073)), MATNOSORU_REASON_READ_ONLY);
-}
-
-/* seed must be written to be read: csrrw x1,seed,x0 and csrrsi x1,seed,1 are read and written back, csrrs x1,seed,x0 and csrrci x1,seed,0
- * are not. */
-static void hold_seed(void) {
-    HOLD(matnosoru_read_system(0x80, 0, 0x015010F3), 0x000100150105);
-    HOLD(matnosoru_write(0x80, 0, 0x000100150105), 0x015010F3);
-    HOLD(matnosoru_read_system(0x80, 0, 0x0150E0F3), 0x010100150206);
-    HOLD(matnosoru_write(0x80, 0, 0x010100150206), 0x0150E0F3);
-    HOLD(matnosoru_read_system(0x80, 0, 0x015070F3), 0x64020009);
-    HOLD(matnosoru_write(0x80, 0, 0x000100150205), REFUSED(8));
-    HOLD(matnosoru_write(0x80, 0, 0x000100150306), REFUSED(8));
-    HOLD(matnosoru_write(0x7F, 0, 0x000100150205), REFUSED(7));
 }
 
 /* What is no stack-based compressed form, in document 01's order of numbers. */
@@ -453,7 +438,6 @@ static void round_of(int round) {
 void begin(void) {
     hold_words();
     hold_lookups();
-    hold_seed();
     hold_stack_writes();
     hold_log();
     hold_batch();

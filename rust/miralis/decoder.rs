@@ -21,8 +21,6 @@
 //!
 //! Where a word is a SYSTEM instruction, a load or a store as document 01 has them, the answers are the original's. They differ:
 //!
-//! - `decode_illegal_instruction` of a set or clear of nothing (`x0` or 0) on seed, with `has_crypto_extension`: the library refuses it,
-//!   as the manual's scalar cryptography chapter does, so the answer is `InvalidCsrOp`. The original reads it.
 //! - `decode_load` of c.lwsp and c.ldsp, and `decode_store` of c.swsp and c.sdsp: the library reads them. The original has `todo!`
 //!   for every word with low two bits 10.
 //! - `decode_load` and `decode_store` of a word that is no load or store. The original has that `todo!`, and `unreachable!` for 01, for

@@ -12,12 +12,12 @@ use differences::Difference;
 use utils::{Width, WidthFrom};
 
 // The header's MATNOSORU_VERSION.
-const VERSION: u64 = 5;
+const VERSION: u64 = 4;
 
 // The number of the header that the archive fits.
 #[unsafe(no_mangle)]
 pub extern "C" fn matnosoru_version() -> u64
-    ensures { result ≡ 5 }
+    ensures { result ≡ 4 }
 {
     VERSION
 }

@@ -1,5 +1,4 @@
--- Why a CSR form was refused. Document 02, no. 4: "a read-only write, b gate off, c no such", and "a comes before b and c"; no. 6: d for seed that
--- is read and not written, "only when seed is available".
+-- Document 02, no. 4, why a CSR was refused: "a read-only write, b gate off, c no such", and "a comes before b and c".
 use Rattle.std.specs.Prelude.{Bool, true, false, ℕ}
 use Rattle.profiles.specs.declared.Profile.{Profile}
 use Rattle.csr_addresses.specs.declared.Csr.{Csr}
@@ -10,29 +9,26 @@ use Rattle.system_decoder.specs.declared.CsrOp.{CsrOp}
 use Rattle.system_decoder.specs.declared.Shape.{Shape}
 use Rattle.system_decoder.specs.declared.Shape.TheVariants.{Wfi as wfi, Mret as mret, Sret as sret, Fence as fence, Access as access}
 use Rattle.system_decoder.specs.declared.Reason.{Reason}
-use Rattle.system_decoder.specs.declared.Reason.TheVariants.{ReadOnly as a, GateOff as b, NoSuch as c, SeedUnwritten as d}
+use Rattle.system_decoder.specs.declared.Reason.TheVariants.{ReadOnly as a, GateOff as b, NoSuch as c}
 use Rattle.system_decoder.specs.declared.Legality.{Legality}
 use Rattle.system_decoder.specs.declared.Legality.TheVariants.{Legal, Illegal}
-use Rattle.system_decoder.specs.System.{read_only_write, seed_unwritten}
+use Rattle.system_decoder.specs.System.{always, barred_def}
 
 -- the letters, in ASCII
 abbrev pub letter_of : Reason → ℕ
 letter_of a = 0x61
 letter_of b = 0x62
 letter_of c = 0x63
-letter_of d = 0x64
 
--- what is made of an access: f of its register, or g of the reason. It goes by whether the access would write a read-only register, by the
--- look-up, and by whether it reads seed and does not write it
-abbrev pub judged : {X : Type 0} → (Csr → X) → (Reason → X) → Bool → CsrLookup → Bool → X
-judged f g true k s = g a
-judged f g false GateOff s = g b
-judged f g false NoSuch s = g c
-judged f g false (Found r) true = g d
-judged f g false (Found r) false = f r
+-- what is made of an access: f of its register, or g of the reason. The first argument is whether it would write a read-only register
+abbrev pub judged : {X : Type 0} → (Csr → X) → (Reason → X) → Bool → CsrLookup → X
+judged f g true k = g a
+judged f g false (Found r) = f r
+judged f g false GateOff = g b
+judged f g false NoSuch = g c
 
 abbrev pub judged_def : {X : Type 0} → (Csr → X) → (Reason → X) → Profile → CsrOp → ℕ → ℕ → X
-judged_def f g p op address src = judged f g (read_only_write address op src) (decode_csr_def p address) (seed_unwritten address op src)
+judged_def f g p op address src = judged f g (barred_def address (always op) src) (decode_csr_def p address)
 
 -- whether it is legal, or why not
 abbrev pub access_legality : Profile → CsrOp → ℕ → ℕ → Legality
@@ -43,7 +39,7 @@ legality_def p wfi = Legal
 legality_def p mret = Legal
 legality_def p sret = Legal
 legality_def p (fence f x y) = Legal
-legality_def p (access op m address rd src) = access_legality p op address src
+legality_def p (access op m address d src) = access_legality p op address src
 
 -- dropping the reason
 abbrev pub is_legal : Legality → Bool

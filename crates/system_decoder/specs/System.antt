@@ -4,9 +4,6 @@ use Rattle.std.specs.Prelude.{Bool, true, false, ◌&&◌, ◌||◌, not, cond, 
 use Rattle.utils.specs.Field.{fld}
 use Rattle.utils.specs.declared.Code.TheVariants.{Is as IsCode}
 use Rattle.profiles.specs.declared.Profile.{Profile}
-use Rattle.csr_addresses.specs.declared.Csr.TheVariants.{Seed}
-use Rattle.csr_addresses.specs.Address.{idx_def}
-use Rattle.csr_addresses.specs.Find.{here}
 use Rattle.csrs.specs.Gates.{available}
 use Rattle.forms.specs.Layout.{Operand, imm, rd, rs1, rs2, funct, csr, short}
 use Rattle.forms.specs.Answer.{Answer, value, refusal}
@@ -122,31 +119,20 @@ abbrev pub FieldsIn : ℕ → Shaped → Type 0
 FieldsIn w (Is s) = FieldsOf w s
 FieldsIn w (Refused n) = Unit {0}
 
--- ---- which accesses write, and which of them every profile refuses
+-- ---- which accesses write, and which registers may not be written
 -- write always writes; set and clear write when the rs1 field is not 0
 abbrev pub always : CsrOp → Bool
 always Write = true
 always Set = false
 always Clear = false
 
-abbrev pub is_write : CsrOp → ℕ → Bool
-is_write o x = always o || not (eqb x 0)
-
 -- address bits 11:10 both one
 abbrev pub read_only : ℕ → Bool
 read_only a = eqb (fld a 10 2) 3
 
 -- a write to a read-only register
-abbrev pub read_only_write : ℕ → CsrOp → ℕ → Bool
-read_only_write a o x = read_only a && is_write o x
-
--- seed is read and not written (Volume I, the entropy source of scalar cryptography, and document 02, no. 6)
-abbrev pub seed_unwritten : ℕ → CsrOp → ℕ → Bool
-seed_unwritten a o x = here a (idx_def Seed) && not (is_write o x)
-
--- either of them
-abbrev pub barred_def : ℕ → CsrOp → ℕ → Bool
-barred_def a o x = read_only_write a o x || seed_unwritten a o x
+abbrev pub barred_def : ℕ → Bool → ℕ → Bool
+barred_def a always x = read_only a && (always || not (eqb x 0))
 
 -- ---- what a profile makes of a shape
 -- whether it makes an instruction of it
@@ -155,4 +141,4 @@ legal_def p wfi = true
 legal_def p mret = true
 legal_def p sret = true
 legal_def p (fence f a b) = true
-legal_def p (access o m a d x) = not (barred_def a o x) && available p a
+legal_def p (access o m a d x) = not (barred_def a (always o) x) && available p a

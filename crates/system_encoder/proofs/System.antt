@@ -21,7 +21,7 @@ use Rattle.system_decoder.specs.declared.Fence.{TheVariants.Vma, TheVariants.Vvm
 use Rattle.system_decoder.specs.Forms.{system, accesses}
 use Rattle.system_decoder.specs.declared.Shape.{Shape}
 use Rattle.system_decoder.specs.declared.Shape.TheVariants.{Wfi as wfi, Mret as mret, Sret as sret, Fence as fence, Access as access}
-use Rattle.system_decoder.specs.System.{Low, shapes, operands_of, meaning, barred_def, access_at, shape_at}
+use Rattle.system_decoder.specs.System.{Low, shapes, operands_of, meaning, always, barred_def, access_at, shape_at}
 use Rattle.system_encoder.proofs.SystemSteps.{access_word_lem, fence_word_lem}
 use Rattle.system_encoder.specs.System.{reached, checked_def, write_shape}
 
@@ -92,7 +92,7 @@ checked_is p (fence f a b) t =
     (λ q e. let z : fence f a b ≡ t = cc in (z, subst Low z (valid a b q))) (λ _ e. no_value 6 t e)
 checked_is p (access o m a d x) t =
     on (λ (k : Answer Shape). k ≡ value t → (access o m a d x ≡ t) × Low t) (are_valid d x)
-    (λ q. let l = valid d x q in go l.0 l.1 (available p a) refl (barred_def a o x)) (λ _ e. no_value 6 t e)
+    (λ q. let l = valid d x q in go l.0 l.1 (available p a) refl (barred_def a (always o) x)) (λ _ e. no_value 6 t e)
   where
     go : d ≤ 31 → x ≤ 31 → (k : Bool) → available p a ≡ k → (b : Bool) → reached k b (access o m a d x) ≡ value t → (access o m a d x ≡ t) × Low t
     go g h true q true e = no_value 8 t e
@@ -111,7 +111,7 @@ numbered p sret = tt
 numbered p (fence f a b) = on Numbered (are_valid a b) (λ _. tt) (λ _. omega arith)
 numbered p (access o m a d x) =
     on Numbered (are_valid d x)
-    (λ _. on Numbered (available p a) (λ _. on Numbered (barred_def a o x) (λ _. omega arith) (λ _. tt)) (λ _. omega arith))
+    (λ _. on Numbered (available p a) (λ _. on Numbered (barred_def a (always o) x) (λ _. omega arith) (λ _. tt)) (λ _. omega arith))
     (λ _. omega arith)
 
 pub not_refused : (p : Profile) (s : Shape) → number_in (checked_def p s) ≡ 0 → (checked_def p s ≡ value s) × Low s

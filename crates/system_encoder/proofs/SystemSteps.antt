@@ -16,7 +16,7 @@ use Rattle.system_decoder.specs.declared.CsrOp.{CsrOp, TheVariants.Write, TheVar
 use Rattle.system_decoder.specs.declared.Fence.{Fence, TheVariants.Vma, TheVariants.Vvma, TheVariants.Gvma}
 use Rattle.system_decoder.specs.Forms.{funct7, sfence_vma, hfence_vvma, hfence_gvma, csrrw, csrrs, csrrc, csrrwi, csrrsi, csrrci, system}
 use Rattle.system_decoder.specs.declared.Shape.{Shape, TheVariants.Fence as fence, TheVariants.Access as access}
-use Rattle.system_decoder.specs.System.{operands, operands_of, funct3, barred_def, meaning}
+use Rattle.system_decoder.specs.System.{operands, operands_of, funct3, always, barred_def, meaning}
 use Rattle.registers.specs.Numbers.{are_valid}
 use Rattle.profiles.specs.declared.Profile.{Profile}
 use Rattle.csrs.specs.Gates.{available}
@@ -92,17 +92,20 @@ module _ (a b : ℕ) (la : a ≤ 31) (lb : b ≤ 31) where
 
 -- ---- 6, 7 and 8 of an access: v is what `are_valid` gave, k `is_available`, b `is_barred`
 module _ (p : Profile) (o : CsrOp) (a d x : ℕ) {v : Bool} (e : v ≡ are_valid d x) where
-  asked : (u t b : Bool) → v ≡ u → t ≡ available p a → b ≡ barred_def a o x → (m : Bool)
+  asked : (u t b : Bool) → v ≡ u → t ≡ available p a → b ≡ barred_def a (always o) x → (m : Bool)
       → number_in (cond u (reached t b (access o m a d x)) (refusal 6)) ≡ number_in (checked_def p (access o m a d x))
   asked u t b q f g m = λ j. number_in (cond ((sym q ∙ e) j) (reached (f j) (g j) (access o m a d x)) (refusal 6))
 
   pub past_31 : not v ≡ true → (m : Bool) → 6 ≡ number_in (checked_def p (access o m a d x))
-  past_31 q = asked false (available p a) (barred_def a o x) (not-true v q) refl refl
+  past_31 q = asked false (available p a) (barred_def a (always o) x) (not-true v q) refl refl
 
   module _ (low : not v ≡ false) {k : Bool} (f : k ≡ available p a) where
     pub unavailable : not k ≡ true → (m : Bool) → 7 ≡ number_in (checked_def p (access o m a d x))
-    unavailable q = asked true false (barred_def a o x) (not-false v low) (sym (not-true k q) ∙ f) refl
+    unavailable q = asked true false (barred_def a (always o) x) (not-false v low) (sym (not-true k q) ∙ f) refl
 
-    module _ (there : not k ≡ false) {b : Bool} (h : b ≡ barred_def a o x) where
+    module _ (there : not k ≡ false) {w : Bool} (g : w ≡ always o) {b : Bool} (h : b ≡ barred_def a w x) where
+      is_barred : b ≡ barred_def a (always o) x
+      is_barred = h ∙ ap (λ (y : Bool). barred_def a y x) g
+
       pub barring : {u : Bool} → b ≡ u → (m : Bool) → number_in (reached true u (access o m a d x)) ≡ number_in (checked_def p (access o m a d x))
-      barring {u} q = asked true true u (not-false v low) (sym (not-false k there) ∙ f) (sym q ∙ h)
+      barring {u} q = asked true true u (not-false v low) (sym (not-false k there) ∙ f) (sym q ∙ is_barred)

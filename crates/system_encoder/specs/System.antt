@@ -10,10 +10,10 @@ use Rattle.forms.specs.Meaning.{write_of}
 use Rattle.system_decoder.specs.Forms.{system}
 use Rattle.system_decoder.specs.declared.Shape.{Shape}
 use Rattle.system_decoder.specs.declared.Shape.TheVariants.{Wfi as wfi, Mret as mret, Sret as sret, Fence as fence, Access as access}
-use Rattle.system_decoder.specs.System.{barred_def, meaning}
+use Rattle.system_decoder.specs.System.{always, barred_def, meaning}
 
 -- ---- document 01's checks of a shape that may hold any numbers, in its order
--- 7: the register is not available; 8: the operation writes a read-only register, or (document 02, no. 6) reads seed and does not write it
+-- 7: the register is not available; 8: the operation writes a read-only register
 abbrev pub reached : Bool → Bool → Shape → Answer Shape
 reached there barred s = cond there (cond barred (refusal 8) (value s)) (refusal 7)
 
@@ -23,7 +23,7 @@ checked_def p wfi = value wfi
 checked_def p mret = value mret
 checked_def p sret = value sret
 checked_def p (fence f a b) = cond (are_valid a b) (value (fence f a b)) (refusal 6)
-checked_def p (access o m a d x) = cond (are_valid d x) (reached (available p a) (barred_def a o x) (access o m a d x)) (refusal 6)
+checked_def p (access o m a d x) = cond (are_valid d x) (reached (available p a) (barred_def a (always o) x) (access o m a d x)) (refusal 6)
 
 -- ---- the writing
 abbrev pub write_shape : Answer Shape → Wrote

@@ -59,7 +59,7 @@ fn access_refusal(ctx: Profile, op: CsrOp, csr: usize, rd: usize, src: usize) ->
     if !csrs::is_available(ctx, csr) {
         return refusals::CSR;
     }
-    if system_decoder::is_barred(csr, op, src) {
+    if system_decoder::is_barred(csr, system_decoder::always_writes(op), src) {
         return refusals::READ_ONLY;
     }
     0

@@ -3,4 +3,3 @@ pub mod System
 pub mod Numbers
 pub mod Sentence
 pub mod Reasons
-pub mod Seed

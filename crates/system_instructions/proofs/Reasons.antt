@@ -1,18 +1,18 @@
--- Document 02, nos. 4 and 6: which reason a refused word has, and what is left when it is dropped. Assumes nothing.
-use Rattle.utils.proofs.Prelude.{◌≡◌, refl, sym, ap, ◌∙◌, subst, ◌↔◌, Bool, true, false, ℕ, arith}
+-- Document 02, no. 4: which reason a refused word has, and what is left when it is dropped. Assumes nothing.
+use Rattle.utils.proofs.Prelude.{◌≡◌, refl, sym, ap, ◌∙◌, subst, ◌↔◌, Bool, true, false, false≢true, ℕ, arith}
 use Rattle.utils.specs.Field.{fld}
+use Rattle.utils.proofs.Signed.{by_test}
 use Rattle.profiles.specs.declared.Profile.{Profile}
 use Rattle.csr_addresses.specs.declared.Csr.{Csr}
 use Rattle.csrs.specs.declared.CsrLookup.{CsrLookup, TheVariants.Found, TheVariants.GateOff, TheVariants.NoSuch}
 use Rattle.csrs.specs.Gates.{decode_csr_def}
-use Rattle.csrs.proofs.Laws.{available_found, found_available}
 use Rattle.csrs.proofs.Reasons.{gate_off, no_such}
 use Rattle.forms.specs.Answer.{Answer, value, refusal}
-use Rattle.system_decoder.specs.declared.Reason.{Reason, TheVariants.ReadOnly as a, TheVariants.GateOff as b, TheVariants.NoSuch as c, TheVariants.SeedUnwritten as d}
+use Rattle.system_decoder.specs.declared.Reason.{Reason, TheVariants.ReadOnly as a, TheVariants.GateOff as b, TheVariants.NoSuch as c}
 use Rattle.system_decoder.specs.declared.Legality.{Legality, TheVariants.Legal, TheVariants.Illegal}
 use Rattle.system_decoder.specs.declared.Shape.{Shape}
 use Rattle.system_decoder.specs.declared.Shape.TheVariants.{Wfi as wfi, Mret as mret, Sret as sret, Fence as fence, Access as access}
-use Rattle.system_decoder.specs.System.{read_only_write, seed_unwritten, shape_at}
+use Rattle.system_decoder.specs.System.{always, barred_def, shape_at}
 use Rattle.system_decoder.specs.Reasons.{letter_of, judged, legality_def}
 use Rattle.system_decoder.proofs.Reasons.{judged_by, one_answer}
 use Rattle.system_instructions.specs.declared.IllegalRead.TheVariants.{Inst as PlainInst, InvalidCsrOp as PlainInvalidCsrOp}
@@ -20,7 +20,7 @@ use Rattle.system_instructions.specs.declared.Explained.{Explained, TheVariants.
 use Rattle.system_instructions.specs.Instruction.{inst_of, inst_at, read_shape, illegal_def}
 use Rattle.system_instructions.specs.Grounds.{CsrForm, address, ReadOnlyWrite}
 use Rattle.system_instructions.specs.Reasons.{explained_at, explained_shape, explained_def, without_reason, Because, letter_in}
-use Rattle.system_instructions.proofs.Sentence.{says_no, six, csr_shape, read_only_write_lem, seed_unwritten_lem}
+use Rattle.system_instructions.proofs.Sentence.{six, csr_shape, test, barred}
 
 -- ---- dropping the reason gives the old answer, for every profile and every word
 drop_at : (p : Profile) (s : Shape) → without_reason (explained_at p s) ≡ inst_at p s
@@ -28,8 +28,9 @@ drop_at p wfi = refl
 drop_at p mret = refl
 drop_at p sret = refl
 drop_at p (fence f x y) = refl
-drop_at p (access o m n rd x) =
-    judged_by without_reason (λ r. Inst (inst_of o m r rd x)) InvalidCsrOp p o n x ∙ one_answer (λ r. PlainInst (inst_of o m r rd x)) PlainInvalidCsrOp p o n x
+drop_at p (access o m n d x) =
+    judged_by without_reason (λ r. Inst (inst_of o m r d x)) InvalidCsrOp (barred_def n (always o) x) (decode_csr_def p n)
+    ∙ one_answer (λ r. PlainInst (inst_of o m r d x)) PlainInvalidCsrOp (barred_def n (always o) x) (decode_csr_def p n)
 
 pub dropping : (p : Profile) (w : ℕ) → without_reason (explained_def p w) ≡ illegal_def p w
 unfolding explained_def illegal_def
@@ -39,58 +40,45 @@ dropping p w = go (shape_at w)
     go (value s) = drop_at p s
     go (refusal n) = refl
 
--- ---- the reason of an access, by the test t of a read-only register, the look-up k and the test s of seed
-abbrev Told : Bool → CsrLookup → Bool → Reason → Type 0
-Told t k s a = t ≡ true
-Told t k s b = (t ≡ false) × (k ≡ GateOff)
-Told t k s c = (t ≡ false) × (k ≡ NoSuch)
-Told t k s d = (t ≡ false) × (((r : Csr) × (k ≡ Found r)) × (s ≡ true))
+-- ---- the reason of an access, by the test t and the look-up k
+abbrev Told : Bool → CsrLookup → Reason → Type 0
+Told t k a = t ≡ true
+Told t k b = (t ≡ false) × (k ≡ GateOff)
+Told t k c = (t ≡ false) × (k ≡ NoSuch)
 
 module _ (f : Csr → Explained) (inst : (r : Csr) (y : Reason) → f r ≡ InvalidCsrOp y → ⊥) where
-  told : (t : Bool) (k : CsrLookup) (s : Bool) (y : Reason) → judged f InvalidCsrOp t k s ≡ InvalidCsrOp y → Told t k s y
-  told true k s y e = let z : a ≡ y = cc in subst (Told true k s) z refl
-  told false GateOff s y e = let z : b ≡ y = cc in subst (Told false GateOff s) z (refl, refl)
-  told false NoSuch s y e = let z : c ≡ y = cc in subst (Told false NoSuch s) z (refl, refl)
-  told false (Found r) true y e = let z : d ≡ y = cc in subst (Told false (Found r) true) z (refl, ((r, refl), refl))
-  told false (Found r) false y e = absurd (inst r y e)
+  told : (t : Bool) (k : CsrLookup) (y : Reason) → judged f InvalidCsrOp t k ≡ InvalidCsrOp y → Told t k y
+  told true k y e = let z : a ≡ y = cc in subst (Told true k) z refl
+  told false (Found r) y e = absurd (inst r y e)
+  told false GateOff y e = let z : b ≡ y = cc in subst (Told false GateOff) z (refl, refl)
+  told false NoSuch y e = let z : c ≡ y = cc in subst (Told false NoSuch) z (refl, refl)
 
-  tells : (t : Bool) (k : CsrLookup) (s : Bool) (y : Reason) → Told t k s y → judged f InvalidCsrOp t k s ≡ InvalidCsrOp y
-  tells t k s a e = ap (λ (u : Bool). judged f InvalidCsrOp u k s) e
-  tells t k s b e = λ j. judged f InvalidCsrOp (e.0 j) (e.1 j) s
-  tells t k s c e = λ j. judged f InvalidCsrOp (e.0 j) (e.1 j) s
-  tells t k s d e = λ j. judged f InvalidCsrOp (e.0 j) (e.1.0.1 j) (e.1.1 j)
+  tells : (t : Bool) (k : CsrLookup) (y : Reason) → Told t k y → judged f InvalidCsrOp t k ≡ InvalidCsrOp y
+  tells t k a e = ap (λ (u : Bool). judged f InvalidCsrOp u k) e
+  tells t k b e = λ j. judged f InvalidCsrOp (e.0 j) (e.1 j)
+  tells t k c e = λ j. judged f InvalidCsrOp (e.0 j) (e.1 j)
 
 -- ---- a word in CSR form is refused for a reason exactly where what the reason says is so
 module _ (p : Profile) (w : ℕ) (form : CsrForm w) where
   abbrev made : Csr → Explained
   made r = Inst (inst_of (six w form).0 (six w form).1 r (fld w 7 5) (fld w 15 5))
 
-  abbrev barred : Bool
-  barred = read_only_write (address w) (six w form).0 (fld w 15 5)
-
-  abbrev unwritten : Bool
-  unwritten = seed_unwritten (address w) (six w form).0 (fld w 15 5)
-
-  is : explained_def p w ≡ judged made InvalidCsrOp barred (decode_csr_def p (address w)) unwritten
+  is : explained_def p w ≡ judged made InvalidCsrOp (test w form) (decode_csr_def p (address w))
   unfolding explained_def
   is = ap (explained_shape p) (csr_shape w form)
 
-  free : (barred ≡ false) ↔ ¬ ReadOnlyWrite w
-  free = says_no (read_only_write_lem w form)
+  free : (test w form ≡ false) ↔ ¬ ReadOnlyWrite w
+  free = (λ e q. false≢true (sym e ∙ (barred w form).1 q), λ n. by_test (test w form) (λ t. absurd (n ((barred w form).0 t))) (λ t. t))
 
-  because : (y : Reason) → Told barred (decode_csr_def p (address w)) unwritten y ↔ Because p w y
-  because a = read_only_write_lem w form
+  because : (y : Reason) → Told (test w form) (decode_csr_def p (address w)) y ↔ Because p w y
+  because a = barred w form
   because b = (λ t. (free.0 t.0, (gate_off (address w) p).0 t.1), λ t. (free.1 t.0, (gate_off (address w) p).1 t.1))
   because c = (λ t. (free.0 t.0, (no_such (address w) p).0 t.1), λ t. (free.1 t.0, (no_such (address w) p).1 t.1))
-  because d = (
-    λ t. ((seed_unwritten_lem w form).0 t.1.1, found_available p (address w) t.1.0.1),
-    λ t. (free.1 (λ q. t.0.1 q.1), (available_found p (address w) (rw t.1 tt), (seed_unwritten_lem w form).1 t.0)),
-  )
 
   pub reasons : (y : Reason) → (explained_def p w ≡ InvalidCsrOp y) ↔ Because p w y
   reasons y = (
-    λ e. (because y).0 (told made other barred (decode_csr_def p (address w)) unwritten y (sym is ∙ e)),
-    λ g. is ∙ tells made other barred (decode_csr_def p (address w)) unwritten y ((because y).1 g),
+    λ e. (because y).0 (told made other (test w form) (decode_csr_def p (address w)) y (sym is ∙ e)),
+    λ g. is ∙ tells made other (test w form) (decode_csr_def p (address w)) y ((because y).1 g),
   )
     where
       other : (r : Csr) (y : Reason) → made r ≡ InvalidCsrOp y → ⊥
@@ -106,7 +94,9 @@ letter_at p wfi = refl
 letter_at p mret = refl
 letter_at p sret = refl
 letter_at p (fence f x y) = refl
-letter_at p (access o m n rd x) = judged_by letter_in (λ r. Inst (inst_of o m r rd x)) InvalidCsrOp p o n x ∙ sym (judged_by letter_by (λ r. Legal) Illegal p o n x)
+letter_at p (access o m n d x) =
+    judged_by letter_in (λ r. Inst (inst_of o m r d x)) InvalidCsrOp (barred_def n (always o) x) (decode_csr_def p n)
+    ∙ sym (judged_by letter_by (λ r. Legal) Illegal (barred_def n (always o) x) (decode_csr_def p n))
 
 pub letter_of_shape : (p : Profile) (w : ℕ) (s : Shape) → value s ≡ shape_at w → letter_in (explained_def p w) ≡ letter_by (legality_def p s)
 unfolding explained_def

@@ -27,7 +27,7 @@ use Rattle.system_instructions.specs.declared.IllegalRead.TheVariants.{Inst, Inv
 use Rattle.system_decoder.specs.Forms.{system}
 use Rattle.system_decoder.specs.declared.Shape.{Shape}
 use Rattle.system_decoder.specs.declared.Shape.TheVariants.{Wfi as wfi, Mret as mret, Sret as sret, Fence as fence, Access as access}
-use Rattle.system_decoder.specs.System.{Low, meaning, barred_def}
+use Rattle.system_decoder.specs.System.{Low, meaning, always, barred_def}
 use Rattle.system_instructions.specs.Instruction.{inst_of, fence_of, found_def, inst_at, read_shape, illegal_def, place_of, access_to, own_shape, shape_for, encode_illegal_def}
 use Rattle.system_encoder.specs.System.{reached, checked_def, write_shape}
 
@@ -35,7 +35,7 @@ use Rattle.system_encoder.specs.System.{reached, checked_def, write_shape}
 -- a CSR form that is read is not barred, and its register is found at its address
 pub record Legal (p : Profile) (o : CsrOp) (m : Bool) (a d x : ℕ) (i : IllegalInst) : Type 0 where
   pub csr : Csr
-  pub free : barred_def a o x ≡ false
+  pub free : barred_def a (always o) x ≡ false
   pub at : decode_csr_def p a ≡ Found csr
   pub is : inst_of o m csr d x ≡ i
 
@@ -43,12 +43,12 @@ invalid_no : {X : Type 0} {i : IllegalInst} → InvalidCsrOp ≡ Inst i → X
 invalid_no e = absurd (let z : ◌≡◌ {A = ℕ} 0 1 = cc in omega arith)
 
 pub legal : (p : Profile) (o : CsrOp) (m : Bool) (a d x : ℕ) (i : IllegalInst) → inst_at p (access o m a d x) ≡ Inst i → Legal p o m a d x i
-legal p o m a d x i = go (barred_def a o x) refl
+legal p o m a d x i = go (barred_def a (always o) x) refl
   where
     made : (c : Csr) → Inst (inst_of o m c d x) ≡ Inst i → inst_of o m c d x ≡ i
     made c e = cc
 
-    go : (b : Bool) → barred_def a o x ≡ b → cond b InvalidCsrOp (found_def (decode_csr_def p a) o m d x) ≡ Inst i → Legal p o m a d x i
+    go : (b : Bool) → barred_def a (always o) x ≡ b → cond b InvalidCsrOp (found_def (decode_csr_def p a) o m d x) ≡ Inst i → Legal p o m a d x i
     go true q e = invalid_no e
     go false q e =
         ⊎_elim (λ t. record { csr = t.0; free = q; at = t.1; is = made t.0 (sym (ap (λ k. found_def k o m d x) t.1) ∙ e) })
@@ -81,7 +81,7 @@ inst_back p (fence f a b) i l e =
 inst_back p (access o m a d x) i l e =
     let t = legal p o m a d x i e in
     ap (shape_for p) (sym t.is) ∙ ap (checked_def p) (own_found p o m a d x t.csr t.at)
-    ∙ ap (λ (v : Bool). cond v (reached (available p a) (barred_def a o x) (access o m a d x)) (refusal 6)) (are_valid_lem d x l.1.0 l.1.1)
+    ∙ ap (λ (v : Bool). cond v (reached (available p a) (barred_def a (always o) x) (access o m a d x)) (refusal 6)) (are_valid_lem d x l.1.0 l.1.1)
     ∙ (λ j. reached (found_available p a t.at j) (t.free j) (access o m a d x))
 
 module _ (p : Profile) where
@@ -99,14 +99,14 @@ module _ (p : Profile) where
       Read = Reads (inst_of o m c d x)
 
       -- what is found there is the register, if anything is
-      there : (a : ℕ) → ((f : Csr) → decode_csr_def p a ≡ Found f → f ≡ c) → Read (reached (available p a) (barred_def a o x) (access o m a d x))
+      there : (a : ℕ) → ((f : Csr) → decode_csr_def p a ≡ Found f → f ≡ c) → Read (reached (available p a) (barred_def a (always o) x) (access o m a d x))
       there a e =
-          on Read (available p a) (λ t. on Read (barred_def a o x) (λ _. tt) (λ b. found (available_found p a (rw t tt)) b)) (λ _. tt)
+          on Read (available p a) (λ t. on Read (barred_def a (always o) x) (λ _. tt) (λ b. found (available_found p a (rw t tt)) b)) (λ _. tt)
         where
-          found : ((f : Csr) × (decode_csr_def p a ≡ Found f)) → barred_def a o x ≡ false → Read (value (access o m a d x))
+          found : ((f : Csr) × (decode_csr_def p a ≡ Found f)) → barred_def a (always o) x ≡ false → Read (value (access o m a d x))
           found w b = (λ j. cond (b j) InvalidCsrOp (found_def (w.1 j) o m d x)) ∙ ap (λ (y : Csr). Inst (inst_of o m y d x)) (e w.0 w.1)
 
-      place : (i : Idx) → idx_def c ≡ i → Read (reached (available p (place_of i)) (barred_def (place_of i) o x) (access o m (place_of i) d x))
+      place : (i : Idx) → idx_def c ≡ i → Read (reached (available p (place_of i)) (barred_def (place_of i) (always o) x) (access o m (place_of i) d x))
       place (At a) e = there a (λ f q. own p a c f e q)
       place (Nowhere n) e = there (2 ^ 12) (λ f q. absurd (omega (arith, found_lt p (2 ^ 12) f q)))
 

@@ -1,11 +1,8 @@
 -- The words in which demand 3's last sentence is stated: "A word in CSR form is refused as InvalidCsrOp exactly when its address names no register
--- available under the profile, or it would write a read-only one." Document 02, no. 6, adds a third ground: it is seed's and would not write it.
+-- available under the profile, or it would write a read-only one."
 use Rattle.std.specs.Prelude.{◌≡◌, false, ◌⊎◌, ℕ, ◌%◌, ◌^◌}
 use Rattle.utils.specs.Field.{fld}
 use Rattle.profiles.specs.declared.Profile.{Profile}
-use Rattle.csr_addresses.specs.declared.Csr.TheVariants.{Seed}
-use Rattle.csr_addresses.specs.declared.Idx.TheVariants.{At}
-use Rattle.csr_addresses.specs.Address.{idx_def}
 use Rattle.csrs.specs.Gates.{available}
 use Rattle.system_instructions.specs.declared.IllegalRead.TheVariants.{InvalidCsrOp}
 use Rattle.system_instructions.specs.Instruction.{illegal_def, number_of}
@@ -30,13 +27,9 @@ ReadOnly a = fld a 10 2 ≡ 3
 abbrev pub ReadOnlyWrite : ℕ → Type 0
 ReadOnlyWrite w = ReadOnly (address w) × Writes w
 
--- the address is seed's, and it would not write
-abbrev pub SeedUnwritten : ℕ → Type 0
-SeedUnwritten w = (idx_def Seed ≡ At (address w)) × ¬ Writes w
-
--- the address names no available register, or it would write a read-only one, or it would read seed and not write it
+-- the address names no available register, or it would write a read-only one
 abbrev pub Grounds : Profile → ℕ → Type 0
-Grounds p w = (available p (address w) ≡ false) ⊎ (ReadOnlyWrite w ⊎ SeedUnwritten w)
+Grounds p w = (available p (address w) ≡ false) ⊎ ReadOnlyWrite w
 
 -- refused as InvalidCsrOp
 abbrev pub Invalid : Profile → ℕ → Type 0

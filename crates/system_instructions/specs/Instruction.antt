@@ -17,7 +17,7 @@ use Rattle.system_decoder.specs.declared.Fence.{Fence}
 use Rattle.system_decoder.specs.declared.Fence.TheVariants.{Vma, Vvma, Gvma}
 use Rattle.system_decoder.specs.declared.Shape.{Shape}
 use Rattle.system_decoder.specs.declared.Shape.TheVariants.{Wfi as wfi, Mret as mret, Sret as sret, Fence as fence, Access as access}
-use Rattle.system_decoder.specs.System.{barred_def, shape_at}
+use Rattle.system_decoder.specs.System.{always, barred_def, shape_at}
 use Rattle.system_encoder.specs.System.{checked_def, write_shape}
 use Rattle.system_instructions.specs.declared.IllegalInst.{IllegalInst}
 use Rattle.system_instructions.specs.declared.IllegalInst.TheVariants.{Wfi, Csrrw, Csrrs, Csrrc, Csrrwi, Csrrsi, Csrrci, Mret, Sret, Sfencevma, Hfencevvma, Hfencegvma}
@@ -55,7 +55,7 @@ inst_at p wfi = Inst Wfi
 inst_at p mret = Inst Mret
 inst_at p sret = Inst Sret
 inst_at p (fence f a b) = Inst (fence_of f a b)
-inst_at p (access o m a d x) = cond (barred_def a o x) InvalidCsrOp (found_def (decode_csr_def p a) o m d x)
+inst_at p (access o m a d x) = cond (barred_def a (always o) x) InvalidCsrOp (found_def (decode_csr_def p a) o m d x)
 
 -- ---- the reading
 abbrev pub read_shape : Profile → Answer Shape → IllegalRead

@@ -126,7 +126,7 @@ impl Work for Words {
         let (rust, library) = (Original::new(PROFILE), Library::new(PROFILE));
         for reading in Reading::ALL {
             for &word in &self.stream.words[reading as usize] {
-                let wanted = if domain::contains(PROFILE, reading, word) {
+                let wanted = if domain::contains(reading, word) {
                     Reasons::get().with_letter(rust.read(reading, word), word)
                 } else {
                     domain::wanted(reading, word)

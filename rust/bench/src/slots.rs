@@ -4,8 +4,8 @@ use std::hint::black_box;
 
 use bench::program::Work;
 use bench::streams;
-use compare::Reading;
 use compare::sides::original;
+use compare::{Reading, domain};
 use matnosoru::abi;
 
 type Slot = [u8; abi::SLOT_LENGTH];
@@ -145,7 +145,7 @@ impl Slots {
     /// Whether the Rust can read each word.
     fn is_readable(&self) -> bool {
         let Traps { words, readings, .. } = &self.traps;
-        words.iter().zip(readings).all(|(word, reading)| streams::is_readable(Reading::ALL[*reading as usize], *word))
+        words.iter().zip(readings).all(|(word, reading)| domain::contains(Reading::ALL[*reading as usize], *word))
     }
 }
 
@@ -153,7 +153,7 @@ impl Slots {
 pub fn all() -> Vec<Slots> {
     let Some(words) = streams::image() else { return vec![] };
     let all: Vec<_> = words.into_iter().filter_map(|word| Some((word, streams::own_reading(word)?))).collect();
-    let readable: Vec<_> = all.iter().copied().filter(|(word, reading)| streams::is_readable(*reading, *word)).collect();
+    let readable: Vec<_> = all.iter().copied().filter(|(word, reading)| domain::contains(*reading, *word)).collect();
     vec![Slots::new("opensbi-traps", &all), Slots::new("opensbi-traps-readable", &readable)]
 }
 

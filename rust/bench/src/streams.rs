@@ -20,20 +20,15 @@ impl Stream {
         self.words.iter().map(Vec::len).sum()
     }
 
-    /// The words of it that the Rust reads as is wanted.
+    /// The words of it that the Rust can read. The others make it panic.
     pub fn readable(&self) -> Stream {
-        self.part(self.name, is_readable)
+        self.part(self.name, domain::contains)
     }
 
     fn part(&self, name: &'static str, has: impl Fn(Reading, u64) -> bool) -> Stream {
         let words = Reading::ALL.map(|reading| self.words[reading as usize].iter().copied().filter(|w| has(reading, *w)).collect());
         Stream { name, words }
     }
-}
-
-/// Whether the Rust reads a word as is wanted. It panics at most of the others.
-pub fn is_readable(reading: Reading, word: u64) -> bool {
-    domain::contains(PROFILE, reading, word)
 }
 
 fn is_stack(reading: Reading, word: u64) -> bool {
@@ -45,7 +40,7 @@ pub fn own_reading(word: u64) -> Option<Reading> {
     if word & 0x7F == 0x73 {
         return Some(Reading::System);
     }
-    [Reading::Load, Reading::Store].into_iter().find(|reading| is_readable(*reading, word) || is_stack(*reading, word))
+    [Reading::Load, Reading::Store].into_iter().find(|reading| domain::contains(*reading, word) || is_stack(*reading, word))
 }
 
 /// The words of the image that OPENSBI_ELF names, if it names one.
@@ -60,7 +55,7 @@ fn of_image(words: &[u64]) -> Vec<Stream> {
     let of = |reading| words.iter().copied().filter(|w| own_reading(*w) == Some(reading)).collect();
     let system = Stream { name: "opensbi-system", words: [of(Reading::System), vec![], vec![]] };
     let memory = Stream { name: "opensbi-memory", words: [vec![], of(Reading::Load), of(Reading::Store)] };
-    let readable = memory.part("opensbi-readable", is_readable);
+    let readable = memory.part("opensbi-readable", domain::contains);
     let compressed = memory.part("opensbi-compressed", |_, w| w & 3 == 0);
     let stack = memory.part("opensbi-stack", is_stack);
     vec![system, memory, readable, compressed, stack]

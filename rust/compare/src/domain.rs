@@ -1,24 +1,17 @@
 //! The inputs on which the Rust's answer is the wanted one, and the classes of all others (docs/DIFFERENCES.md has one row for each).
 
-use crate::{Profile, Reading};
+use crate::Reading;
 
-/// Whether the Rust's answer to this word under this profile is the wanted one: in the SYSTEM reading every word, but for reads of an
-/// available seed that do not write it; in the other two, the words that are such a load or store.
+/// Whether the Rust's answer to this word is the wanted one: every word in the SYSTEM reading; in the other two, the words that are
+/// such a load or store.
 #[inline]
-pub const fn contains(profile: Profile, reading: Reading, raw: u64) -> bool {
+pub const fn contains(reading: Reading, raw: u64) -> bool {
     let (low, half3, word3) = (raw & 3, raw >> 13 & 7, raw >> 12 & 7);
     match reading {
-        Reading::System => !(profile.has_crypto() && seed_unwritten(raw)),
+        Reading::System => true,
         Reading::Load => (low == 0 && (half3 == 2 || half3 == 3)) || (raw & 0x7F == 0x03 && word3 != 7),
         Reading::Store => (low == 0 && (half3 == 6 || half3 == 7)) || (raw & 0x7F == 0x23 && word3 < 4),
     }
-}
-
-/// Whether a word reads seed (0x015) and does not write it: a set or clear, immediate or not, with zero in the rs1 field.
-#[inline]
-pub const fn seed_unwritten(raw: u64) -> bool {
-    // bit 13 tells set and clear from write
-    raw & 0xFFFF_A07F == 0x0150_2073
 }
 
 /// The answer to a stack-based compressed load or store, by Volume I's bits; `None` for any other word. No load has rd 0.
@@ -43,12 +36,9 @@ pub const fn stack_form(reading: Reading, raw: u64) -> Option<u64> {
     Some(u64::from_le_bytes([kind, width, 1, first as u8, second as u8, imm as u8, (imm >> 8) as u8, 0]))
 }
 
-/// The answer that is wanted for a word outside the domain: a stack-based form, or the number that the documents give it, and the reason.
+/// The answer that is wanted for a word outside the domain: a stack-based form, or document 01's number.
 #[inline]
 pub const fn wanted(reading: Reading, raw: u64) -> u64 {
-    if matches!(reading, Reading::System) {
-        return reading.refused(2) | (b'd' as u64) << 24;
-    }
     if let Some(answer) = stack_form(reading, raw) {
         return answer;
     }
@@ -75,19 +65,14 @@ pub struct Class {
 impl Class {
     /// Whether the class has this word.
     pub fn has(&self, raw: u64) -> bool {
-        let is_one = match self.reading {
-            Reading::System => seed_unwritten(raw),
-            _ => self.refusal.is_none() == stack_form(self.reading, raw).is_some(),
-        };
-        is_one && (self.of)(raw & 3, raw & 0x7F, raw >> 13 & 7, raw >> 12 & 7)
+        self.refusal.is_none() == stack_form(self.reading, raw).is_some() && (self.of)(raw & 3, raw & 0x7F, raw >> 13 & 7, raw >> 12 & 7)
     }
 }
 
-/// All words outside the domain of the full profile; each word is in exactly one class of its reading.
+/// All words outside the domain; each word is in exactly one class of its reading.
 pub const CLASSES: &[Class] = {
-    use Reading::{Load, Store, System};
+    use Reading::{Load, Store};
     &[
-        Class { reading: System, name: "seed read and not written", example: 0x0150_22F3, refusal: Some(2), of: |_, o, _, _| o == 0x73 },
         Class { reading: Load, name: "low two bits 10, C.LWSP, C.LDSP", example: 0x4502, refusal: None, of: |l, _, _, _| l == 2 },
         Class { reading: Load, name: "low two bits 10, any other", example: 0x4002, refusal: Some(5), of: |l, _, _, _| l == 2 },
         Class { reading: Load, name: "low two bits 01", example: 0x4501, refusal: Some(3), of: |l, _, _, _| l == 1 },
@@ -173,39 +158,22 @@ pub const CLASSES: &[Class] = {
 #[cfg(test)]
 mod tests {
     use super::*;
-    use Reading::{Load, Store, System};
+    use Reading::{Load, Store};
 
-    /// Words with all that decides: bits 31:12 with the SYSTEM opcode, and the low 16 bits in the other two readings.
-    fn words(reading: Reading) -> impl Iterator<Item = u64> {
-        let (count, shift, opcode) = if reading == System { (1 << 20, 12, 0x73) } else { (1 << 16, 0, 0) };
-        (0..count).map(move |k: u64| k << shift | opcode)
-    }
-
-    /// The domain of the full profile and the classes take every word once.
+    /// The domain and the classes take every word once: all that decides is in the low 16 bits.
     #[test]
     fn each_word_once() {
-        for reading in [System, Load, Store] {
-            for raw in words(reading) {
+        for reading in [Load, Store] {
+            for raw in 0..0x1_0000 {
                 let classes = CLASSES.iter().filter(|c| c.reading == reading && c.has(raw)).count();
-                assert_eq!(classes, usize::from(!contains(Profile::FULL, reading, raw)), "{reading:?} {raw:#x}");
+                assert_eq!(classes, usize::from(!contains(reading, raw)), "{reading:?} {raw:#x}");
             }
         }
         for class in CLASSES {
             assert!(class.has(class.example), "{}", class.name);
-            for raw in words(class.reading).filter(|raw| class.has(*raw)) {
+            for raw in (0..0x1_0000).filter(|raw| class.has(*raw)) {
                 assert_eq!(crate::refusal(wanted(class.reading, raw)), class.refusal, "{} {raw:#x}", class.name);
             }
-        }
-    }
-
-    /// Four words with rd 0 read seed and do not write it, and without crypto the Rust refuses them too.
-    #[test]
-    fn seed() {
-        let unwritten: Vec<u64> = words(System).filter(|raw| seed_unwritten(*raw)).collect();
-        assert_eq!(unwritten, [0x0150_2073, 0x0150_3073, 0x0150_6073, 0x0150_7073]);
-        for raw in unwritten {
-            assert!(contains(Profile { flags: 0x7F, custom: u64::MAX }, System, raw), "{raw:#x}");
-            assert!(!contains(Profile { flags: 0x80, custom: 0 }, System, raw | 0xDEAD_BEEF << 32), "{raw:#x}");
         }
     }
 }

@@ -58,11 +58,6 @@ pub struct Profile {
 impl Profile {
     pub const EMPTY: Profile = Profile { flags: 0, custom: 0 };
     pub const FULL: Profile = Profile { flags: 0xFF, custom: u64::MAX };
-
-    /// The flag that seed waits for.
-    pub const fn has_crypto(self) -> bool {
-        self.flags & 1 << 7 != 0
-    }
 }
 
 impl std::fmt::Display for Profile {

@@ -107,7 +107,7 @@ pub use registers::{Csr, Register, csr};
 pub use utils::{Width, calculate_addr, sign_extend};
 
 /// The version of the library that this crate is for: MATNOSORU_VERSION of include/matnosoru.h.
-pub const VERSION: u64 = 5;
+pub const VERSION: u64 = 4;
 
 /// The version of the library that is linked. Where it is not [`VERSION`], archive and crate are of different releases.
 #[must_use]

@@ -2,7 +2,7 @@
 
 use core::fmt;
 
-use crate::{Csr, abi, csr};
+use crate::{Csr, abi};
 
 /// Why the SYSTEM reading refuses the CSR of a word with 2. Each has its letter, and the word's CSR address. A later library may have
 /// further ones.
@@ -15,12 +15,11 @@ use crate::{Csr, abi, csr};
 /// assert_eq!(Reason::ReadOnly { address: 0xF14 }.to_string(), "mhartid is read-only and would be written");
 /// assert_eq!(Reason::GateOff { address: 0x180 }.to_string(), "satp is there only with supervisor mode");
 /// assert_eq!(Reason::NoSuch { address: 0xFFF }.to_string(), "no profile has a CSR at 0xfff");
-/// assert_eq!(Reason::SeedUnwritten.to_string(), "seed must be written to be read");
 /// ```
 #[derive(Clone, Copy, Debug, PartialEq, Eq, Hash)]
 #[non_exhaustive]
 pub enum Reason {
-    /// a: the word writes, and the address is a read-only one (its bits 11 and 10 are both one). This comes before the others,
+    /// a: the word writes, and the address is a read-only one (its bits 11 and 10 are both one). This comes before the other two,
     /// whether or not there is a register.
     ReadOnly {
         /// The CSR address of the word, 0 to 4095
@@ -36,8 +35,6 @@ pub enum Reason {
         /// The CSR address of the word, 0 to 4095
         address: usize,
     },
-    /// d: seed is available, and the word reads it and does not write it (a set or clear of `x0` or 0)
-    SeedUnwritten,
 }
 
 impl Reason {
@@ -49,19 +46,17 @@ impl Reason {
             b'a' => Some(Reason::ReadOnly { address }),
             b'b' => Some(Reason::GateOff { address }),
             b'c' => Some(Reason::NoSuch { address }),
-            b'd' => Some(Reason::SeedUnwritten),
             _ => None,
         }
     }
 
-    /// The reason's letter: a, b, c or d.
+    /// The reason's letter: a, b or c.
     #[must_use]
     pub const fn letter(self) -> char {
         match self {
             Reason::ReadOnly { .. } => 'a',
             Reason::GateOff { .. } => 'b',
             Reason::NoSuch { .. } => 'c',
-            Reason::SeedUnwritten => 'd',
         }
     }
 
@@ -70,7 +65,6 @@ impl Reason {
     pub const fn address(self) -> usize {
         match self {
             Reason::ReadOnly { address } | Reason::GateOff { address } | Reason::NoSuch { address } => address,
-            Reason::SeedUnwritten => csr::SEED,
         }
     }
 }
@@ -86,7 +80,6 @@ impl fmt::Display for Reason {
                 None => write!(f, "{csr} is not there under this profile"),
             },
             (Reason::NoSuch { .. }, Some(csr)) => write!(f, "no profile has {csr} ({address:#05x})"),
-            (Reason::SeedUnwritten, _) => f.write_str("seed must be written to be read"),
             (_, None) => write!(f, "no profile has a CSR at {address:#05x}"),
         }
     }

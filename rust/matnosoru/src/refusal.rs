@@ -10,8 +10,7 @@ use crate::{Reason, abi};
 pub enum Refusal {
     /// 1, SYSTEM reading: no such instruction. Miralis's `IllegalInst::Unknown`.
     Unknown,
-    /// 2, SYSTEM reading: the CSR is not available, or is read-only and written, or is seed and not written. Miralis's
-    /// `IllegalInst::InvalidCsrOp`.
+    /// 2, SYSTEM reading: the CSR is not available, or is read-only and written. Miralis's `IllegalInst::InvalidCsrOp`.
     ///
     /// A reading says which ([`Refusal::reason`]). A log keeps the number alone, so what comes from a log has no reason; nor has
     /// what is made from a number. The two are not equal: [`Refusal::without_reason`] makes them so.
@@ -26,7 +25,7 @@ pub enum Refusal {
     RegisterRange,
     /// 7: the CSR has no address of its own, or is not available.
     NoSuchCsr,
-    /// 8, writing: the CSR operation writes a read-only CSR, or reads seed and does not write it.
+    /// 8, writing: the CSR operation writes a read-only CSR.
     ReadOnlyCsr,
     /// 9, writing: no form with this width, sign, compression and registers.
     NoForm,
@@ -141,13 +140,13 @@ impl fmt::Display for Refusal {
         let why = match self {
             Refusal::Unknown => "no such SYSTEM instruction",
             Refusal::InvalidCsrOp(Some(reason)) => return write!(f, "{} ({reason})", self.number()),
-            Refusal::InvalidCsrOp(None) => "the CSR is not available, or is read-only and written, or is seed and not written",
+            Refusal::InvalidCsrOp(None) => "the CSR is not available, or is read-only and written",
             Refusal::NotTheForm => "not a word of this reading",
             Refusal::ReservedWidth => "a reserved width",
             Refusal::StackForm => "low two bits 10, and no stack-based form of this reading",
             Refusal::RegisterRange => "a register or immediate above 31",
             Refusal::NoSuchCsr => "no such CSR, or not available",
-            Refusal::ReadOnlyCsr => "the CSR is read-only and would be written, or is seed and would not be",
+            Refusal::ReadOnlyCsr => "the CSR is read-only",
             Refusal::NoForm => "no form with these operands",
             Refusal::ImmediateRange => "the immediate is outside the form's range or step",
             Refusal::RecordKind => "no such kind of record",

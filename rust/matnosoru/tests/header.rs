@@ -49,7 +49,7 @@ fn refusals() {
 #[test]
 fn reasons() {
     let address = 0;
-    let reasons = [Reason::ReadOnly { address }, Reason::GateOff { address }, Reason::NoSuch { address }, Reason::SeedUnwritten];
+    let reasons = [Reason::ReadOnly { address }, Reason::GateOff { address }, Reason::NoSuch { address }];
     assert_eq!(listed("matnosoru_reason"), reasons.map(|reason| format!("{:?}", reason.letter())));
 }
 
@@ -62,10 +62,8 @@ fn lookups() {
 #[test]
 fn words() {
     assert_eq!((abi::read_refusal(0x05_0109), abi::reason(0x05_0109)), (5, 0));
-    for (flags, raw, number, letter) in
-        [(0, 0xF140_1073, 2, b'a'), (0, 0xC000_2573, 2, b'b'), (0, 0x7A10_20F3, 2, b'c'), (0x80, 0x0150_22F3, 2, b'd'), (0, 0x73, 1, 0)]
-    {
-        let word = abi::read_system(flags, 0, raw);
+    for (raw, number, letter) in [(0xF140_1073, 2, b'a'), (0xC000_2573, 2, b'b'), (0x7A10_20F3, 2, b'c'), (0x73, 1, 0)] {
+        let word = abi::read_system(0, 0, raw);
         assert_eq!(word, u64::from_le_bytes([9, 0, number, letter, 0, 0, 0, 0]), "{raw:#x}");
         assert_eq!((abi::read_refusal(word), abi::reason(word)), (number as u64, letter), "{raw:#x}");
     }

@@ -53,26 +53,6 @@ fn stack_forms() {
     }
 }
 
-/// seed must be written to be read: an older log that holds a bare read ends there, and a reader can go on behind it.
-#[test]
-fn seed() {
-    const CRYPTO: [u8; 11] = [0x0A, 2, 0x80, 0, 0, 0, 0, 0, 0, 0, 0];
-    const WRITTEN: [u8; 6] = [5, 1, 0x15, 0, 5, 0];
-    for read in [[5, 2, 0x15, 0, 5, 0], [5, 3, 0x15, 0, 0, 0], [6, 2, 0x15, 0, 31, 0], [6, 3, 0x15, 0, 5, 0]] {
-        let text = [&CRYPTO[..], &WRITTEN, &read, &WRITTEN].concat();
-        assert_eq!(listing(&text), "at kind answer\n0 0A hart 2\n11 05 015012F3\nbad 13 at 17\n");
-        let mut log = Log::new(&text);
-        assert_eq!(log.by_ref().filter(Result::is_ok).count(), 2);
-        let behind = Log::resumed(log.state(), log.at() + 6, &log.rest()[6..]);
-        assert_eq!(behind.map(|entry| entry.unwrap().line.to_string()).collect::<String>(), "23 05 015012F3\n");
-        assert_eq!(Profile::EMPTY.read_record(&read), Err(Refusal::RecordField), "{read:?}");
-        assert_eq!(Profile::EMPTY.read_record(&read[..5]), Err(Refusal::CutShort), "{read:?}");
-    }
-    for set in [[5, 2, 0x15, 0, 5, 1], [6, 3, 0x15, 0, 5, 31], [6, 1, 0x15, 0, 5, 0]] {
-        assert!(Profile::from_flags(0x80, 0).read_record(&set).is_ok(), "{set:?}");
-    }
-}
-
 /// The records of document 01's bytes, with their places, and what they leave behind.
 #[test]
 fn walk() {

@@ -22,7 +22,7 @@ fn numbers() {
     }
     assert_eq!(Refusal::Unknown.number(), 1);
     assert_eq!(Refusal::UnequalLists.number(), 17);
-    assert_eq!(Refusal::ReadOnlyCsr.to_string(), "8 (the CSR is read-only and would be written, or is seed and would not be)");
+    assert_eq!(Refusal::ReadOnlyCsr.to_string(), "8 (the CSR is read-only)");
 }
 
 #[test]
@@ -70,7 +70,7 @@ fn reason(profile: Profile, raw: usize) -> Reason {
     refusal.reason().unwrap_or_else(|| panic!("{raw:#x} has no reason"))
 }
 
-/// a before the others, by the address alone; then b for what some profile has, and c for the rest.
+/// a before b and c, by the address alone; then b for what some profile has, and c for the rest.
 #[test]
 fn reasons() {
     let full = Profile::from_flags(!0, !0);
@@ -103,46 +103,6 @@ fn reasons() {
     // the address is in bits 20 to 31, whatever is above
     assert_eq!(reason(EMPTY, 0xDEAD_BEEF << 32 | access(2, 0x7A1, 1, 0)), Reason::NoSuch { address: 0x7A1 });
     assert_eq!(reason(EMPTY, 1 << 32 | access(1, 0xFFF, 0, 1)), Reason::ReadOnly { address: 0xFFF });
-}
-
-/// seed must be written to be read: d for a set or clear of nothing where it is available, b where it is not. What is written back is
-/// refused alike, with 8 and with 7.
-#[test]
-fn seed() {
-    let full = Profile::from_flags(!0, !0);
-    let (crypto, others) = (Profile::from_flags(0x80, 0), Profile::from_flags(0x7F, !0));
-    let gate_off = Reason::GateOff { address: 0x015 };
-    for (rd, above) in [(0, 0), (5, 0), (31, 0xDEAD_BEEF << 32)] {
-        for raw in [2, 3, 6, 7].map(|funct3| above | access(funct3, 0x015, rd, 0)) {
-            for profile in [crypto, full] {
-                assert_eq!(reason(profile, raw), Reason::SeedUnwritten, "{raw:#x}");
-            }
-            for profile in [EMPTY, others] {
-                assert_eq!(reason(profile, raw), gate_off, "{raw:#x}");
-            }
-        }
-    }
-    // a write of nothing writes, and so do a set and a clear of something
-    for (funct3, source) in [(1, 0), (5, 0), (1, 31), (2, 1), (3, 16), (5, 1), (6, 31), (7, 1)] {
-        let raw = access(funct3, 0x015, 5, source);
-        for profile in [crypto, full] {
-            let inst = profile.decode_illegal_instruction(raw).unwrap_or_else(|refusal| panic!("{raw:#x}: {refusal}"));
-            assert_eq!(profile.encode(inst), Ok(raw as u32), "{raw:#x}");
-        }
-        assert_eq!(reason(others, raw), gate_off, "{raw:#x}");
-    }
-    // no other register asks to be written, and whether seed is available is as it was
-    for address in (0..4096).filter(|address| *address != 0x015 && full.decode_csr(*address).is_some()) {
-        assert!(full.decode_illegal_instruction(access(2, address, 5, 0)).is_ok(), "{address:#x}");
-    }
-    assert_eq!((crypto.decode_csr(0x015), others.decode_csr(0x015)), (Some(Csr::Seed), None));
-    for instr in [Csrrs { csr: Csr::Seed, rd: X5, rs1: X0 }, Csrrc { csr: Csr::Seed, rd: X0, rs1: X0 }] {
-        assert_eq!((crypto.encode(instr), others.encode(instr)), (Err(Refusal::ReadOnlyCsr), Err(Refusal::NoSuchCsr)));
-    }
-    for instr in [Csrrsi { csr: Csr::Seed, rd: X31, uimm: 0 }, Csrrci { csr: Csr::Seed, rd: X5, uimm: 0 }] {
-        assert_eq!((full.encode(instr), EMPTY.encode(instr)), (Err(Refusal::ReadOnlyCsr), Err(Refusal::NoSuchCsr)));
-    }
-    assert_eq!(crypto.encode(Csrrci { csr: Csr::Seed, rd: X5, uimm: 32 }), Err(Refusal::RegisterRange));
 }
 
 /// The reason is the word's: the letter that crosses, and the address in the raw word.
@@ -183,7 +143,6 @@ fn reasons_in_words() {
         (full, 0x7A1, 0, 'c', "no profile has tdata1 (0x7a1)"),
         (full, 0xFFF, 0, 'c', "no profile has a CSR at 0xfff"),
         (full, 0x001, 1, 'c', "no profile has a CSR at 0x001"),
-        (full, 0x015, 0, 'd', "seed must be written to be read"),
     ] {
         let raw = access(2, address, 1, source);
         let reason = reason(profile, raw);
@@ -199,10 +158,7 @@ fn no_reasons() {
         let refusal = Refusal::from_number(number);
         assert_eq!((refusal.reason(), refusal.without_reason()), (None, refusal), "{number}");
     }
-    assert_eq!(
-        Refusal::from_number(2).to_string(),
-        "2 (the CSR is not available, or is read-only and written, or is seed and not written)"
-    );
+    assert_eq!(Refusal::from_number(2).to_string(), "2 (the CSR is not available, or is read-only and written)");
     assert_eq!(EMPTY.decode_illegal_instruction(0x73).unwrap_err().reason(), None);
     assert_eq!(EMPTY.decode_load(0x7003).unwrap_err().reason(), None);
     assert_eq!(EMPTY.decode_store(0x7023).unwrap_err().reason(), None);

@@ -1,6 +1,5 @@
-//! The replacement answers as the original does inside the domain that was ported. Outside it, it reads the stack-based forms,
-//! refuses a seed that is read and not written, and panics at all else. (The whole comparison is the package `compare`; this is the part
-//! of it that takes seconds.)
+//! The replacement answers as the original does inside the domain that was ported. Outside it, it reads the stack-based forms
+//! and panics at all else. (The whole comparison is the package `compare`; this is the part of it that takes seconds.)
 
 #[cfg(not(have_miralis))]
 #[test]
@@ -41,9 +40,6 @@ mod run {
         (0x5A, 0xFEDC_BA98_7654_3210),
     ];
 
-    /// csrrc of x0, csrrsi of 0 and csrrci of 0, but for the address of the CSR.
-    const SEED: [usize; 3] = [0x30F3, 0x6073, 0x7073];
-
     #[test]
     fn system() {
         for (flags, custom) in PROFILES {
@@ -65,9 +61,6 @@ mod run {
                     0xDEAD_0000_0000_1073,
                 ] {
                     let raw = address << 20 | low;
-                    if flags & 0x80 != 0 && address == 0x015 && SEED.contains(&low) {
-                        continue;
-                    }
                     let (a, b) = (ours.decode_illegal_instruction(raw), theirs.decode_illegal_instruction(raw));
                     assert!(same(&a, &b), "{raw:#x}: {a:?}, the original {b:?}");
                 }
@@ -75,19 +68,6 @@ mod run {
             for address in (0..0x2000).chain([1 << 32, usize::MAX]) {
                 let (a, b) = (ours.decode_csr(address), theirs.decode_csr(address));
                 assert!(same(&a, &b), "{address:#x}: {a:?}, the original {b:?}");
-            }
-        }
-    }
-
-    /// seed read and not written: where it is available, the original takes it.
-    #[test]
-    fn seed() {
-        for (flags, custom) in PROFILES {
-            let (ours, theirs) = contexts(flags, custom);
-            for raw in SEED.map(|low| 0x015 << 20 | low) {
-                assert_eq!(ours.decode_illegal_instruction(raw), proved::IllegalInst::InvalidCsrOp, "{raw:#x}");
-                let refused = theirs.decode_illegal_instruction(raw) == original::IllegalInst::InvalidCsrOp;
-                assert_eq!(refused, flags & 0x80 == 0, "{raw:#x}");
             }
         }
     }

@@ -19,20 +19,20 @@ access-refusal-spec =
     let v = k.before.before in
     let a = v.before.args in
     unavailable a.ctx a.op a.csr a.rd a.src v.are-valid.ensures k.before.if1.false k.is-available.ensures c.if2.true)
-    (λ c κs. search needs)
+    (λ c κs. search needs) (λ c κs. search needs)
     (λ c.
     let b = c.before in
-    let t = b.before in
+    let t = b.before.before in
     let k = t.before in
     let v = k.before.before in
     let a = v.before.args in
     barring a.ctx a.op a.csr a.rd a.src v.are-valid.ensures k.before.if1.false k.is-available.ensures t.if2.false
-    b.is-barred.ensures c.if3.true)
+    b.before.always-writes.ensures b.is-barred.ensures c.if3.true)
     (λ c.
     let b = c.before in
-    let t = b.before in
+    let t = b.before.before in
     let k = t.before in
     let v = k.before.before in
     let a = v.before.args in
     barring a.ctx a.op a.csr a.rd a.src v.are-valid.ensures k.before.if1.false k.is-available.ensures t.if2.false
-    b.is-barred.ensures c.if3.false))
+    b.before.always-writes.ensures b.is-barred.ensures c.if3.false))

@@ -6,8 +6,8 @@
 //!
 //! Where the Rust's answer is the wanted one (`compare::domain`), the two answers are the same. The refusal 2 has a reason in the
 //! library's alone: it is held to the one that follows from the Rust's look-up (`compare::reasons`). Everywhere else the library's answer
-//! is a stack-based form or the number that the documents give, and docs/DIFFERENCES.md has a row that says what the Rust does and what
-//! the library does. Each instruction that the library reads it also writes back to the word that it was.
+//! is a stack-based form or document 01's number, and docs/DIFFERENCES.md has a row that says what the Rust does and what the
+//! library does. Each instruction that the library reads it also writes back to the word that it was.
 //!
 //! The exit status is 1 where anything differs, and where there is no text of Miralis to compare with.
 
@@ -148,8 +148,7 @@ mod run {
         #[inline(always)]
         fn word(&self, found: &mut Found, reading: Reading, raw: u64) {
             let ours = self.library.read(reading, raw);
-            let is_inside = domain::contains(self.profile, reading, raw);
-            let wanted = if is_inside {
+            let wanted = if domain::contains(reading, raw) {
                 found.compared += 1;
                 self.reasons.with_letter(self.rust.read(reading, raw), raw)
             } else {
@@ -157,7 +156,7 @@ mod run {
                 domain::wanted(reading, raw)
             };
             if ours != wanted {
-                let who = if is_inside { R::NAME } else { "wanted" };
+                let who = if domain::contains(reading, raw) { R::NAME } else { "wanted" };
                 found.differs(format!(
                     "{} {raw:#X} under {}: the library {}, {who} {}",
                     reading.name(),
@@ -196,9 +195,7 @@ mod run {
             if address < 4096 {
                 let csrrs = address << 20 | 0x2073;
                 let read = library.system(csrrs);
-                let wanted = if !domain::contains(*profile, System, csrrs) {
-                    domain::wanted(System, csrrs)
-                } else if is_found {
+                let wanted = if is_found {
                     u64::from_le_bytes([5, 2, address as u8, (address >> 8) as u8, 0, 0, 0, 0])
                 } else {
                     reasons.with_letter(System.refused(2), csrrs)
@@ -209,29 +206,15 @@ mod run {
         }
     }
 
-    /// The letter of an answer that has one, behind a space.
-    fn reason(answer: u64) -> String {
-        if letter(answer) == 0 { String::new() } else { format!(" {}", letter(answer) as char) }
-    }
-
-    /// An access to a CSR in words.
-    fn access(answer: u64) -> String {
-        let [kind, op, low, high, rd, source, ..] = answer.to_le_bytes();
-        let op = ["no operation", "write", "set", "clear"].get(op as usize).unwrap_or(&"no operation");
-        let address = u16::from_le_bytes([low, high]);
-        let csr = matnosoru::Csr::at(address as usize).map_or(format!("{address:#X}"), |csr| format!("{csr:?}"));
-        format!("{op}{} {csr}, rd {rd}, {source}", if kind == 6 { " immediate" } else { "" })
-    }
-
     /// An answer in words.
     fn text(answer: u64) -> String {
         let [kind, width, flags, a, b, low, high, _] = answer.to_le_bytes();
         let (bits, imm) = (width as u32 * 8, i16::from_le_bytes([low, high]));
         match (kind, refusal(answer)) {
-            (_, Some(number)) => format!("refuses {number}{}", reason(answer)),
+            (_, Some(number)) if letter(answer) != 0 => format!("refuses {number} {}", letter(answer) as char),
+            (_, Some(number)) => format!("refuses {number}"),
             (7, _) => format!("load {bits} {}, rd {a}, base {b}, {imm}", if flags & 2 == 2 { "unsigned" } else { "signed" }),
             (8, _) => format!("store {bits}, rs2 {b}, base {a}, {imm}"),
-            (5 | 6, _) => access(answer),
             _ => format!("{answer:#018X}"),
         }
     }
@@ -508,11 +491,9 @@ mod run {
                 }
                 None => {
                     found.same(a == Ok(b), || format!("{name}: {a:?}, {} {b:#X}", Original::NAME));
-                    // a read-only register can only be read, and seed must be written to be read
-                    let op = if b >> 10 == 3 { 2 } else { 1 };
-                    let word = library.write(u64::from_le_bytes([5, op, b as u8, (b >> 8) as u8, 0, 0, 0, 0]));
+                    let word = library.write(u64::from_le_bytes([5, 2, b as u8, (b >> 8) as u8, 0, 0, 0, 0]));
                     let never = (0x7A1..0x7C0).contains(&b);
-                    let wanted = if never { 7 << 32 } else { (b as u64) << 20 | (op as u64) << 12 | 0x73 };
+                    let wanted = if never { 7 << 32 } else { (b as u64) << 20 | 0x2073 };
                     found.same(word == wanted, || format!("{name}: written as {word:#X}, wanted {wanted:#X}"));
                 }
             }
@@ -619,7 +600,7 @@ mod run {
         run.part("classes outside the domain", domain::CLASSES.len() as u64, |found, chunk| {
             let class = &domain::CLASSES[chunk as usize];
             let (reading, name) = (class.reading.name(), class.name);
-            let pair = Pair::<R>::new(Profile::FULL);
+            let pair = Pair::<R>::new(Profile::EMPTY);
             // what the Rust does, and with how many words
             let mut ways: BTreeMap<String, (u64, u64)> = BTreeMap::new();
             for raw in [class.example].into_iter().chain(some_of(class, each, chunk)) {
@@ -655,21 +636,19 @@ mod run {
     /// Random words of a class, with and without rubbish above.
     fn some_of(class: &domain::Class, count: usize, seed: u64) -> Vec<u64> {
         let mut random = Random::new(seed);
-        // most random words are none of a small class: the bits that make one are bent to those of its word
-        let bent: &[u64] = if class.reading == System { &[0xFFFF_A07F] } else { &[0xE07F, 0x7000] };
         std::iter::from_fn(|| Some(random.next() & [0xFFFF, 0xFFFF_FFFF, u64::MAX][random.below(3) as usize]))
-            .map(|w| bent.iter().fold(w, |w, bits| if class.has(w) { w } else { w & !bits | class.example & bits }))
+            // most random words are none of a small class: the bits that make one are bent to those of its word
+            .map(|w| if class.has(w) { w } else { w & !0xE07F | class.example & 0xE07F })
+            .map(|w| if class.has(w) { w } else { w & !0x7000 | class.example & 0x7000 })
             .filter(|w| class.has(*w))
             .take(count)
             .collect()
     }
 
-    /// Whether the replacement answers as the library does (the SYSTEM reading without the reason), or panics with the number of the
-    /// library's refusal.
+    /// Whether the replacement answers as the library does, or panics with the number of the library's refusal.
     fn does_as_library(class: &domain::Class, raw: u64, theirs: &Result<u64, String>) -> bool {
         match (class.refusal, theirs) {
             (None, Ok(answer)) => *answer == domain::wanted(class.reading, raw),
-            (Some(number), Ok(answer)) => class.reading == System && *answer == System.refused(number),
             (Some(number), Err(panic)) => panic.contains(&format!(" {raw:#x} is refused with {number} (")),
             _ => false,
         }
@@ -678,8 +657,7 @@ mod run {
     /// Whether docs/DIFFERENCES.md says what the Rust did with the class's example, and what the library does.
     fn is_row(class: &domain::Class, theirs: &Result<u64, String>) -> bool {
         let theirs = theirs.as_ref().map_or_else(|panic| format!("panics: {panic}"), |answer| text(*answer));
-        let wanted = domain::wanted(class.reading, class.example);
-        let ours = class.refusal.map_or_else(|| text(wanted), |number| format!("{number}{}", reason(wanted)));
+        let ours = class.refusal.map_or_else(|| text(domain::wanted(class.reading, class.example)), |number| number.to_string());
         let cells = row(&format!("### The {} reading", class.reading.name()), &format!("{:#X}", class.example));
         cells.is_some_and(|cells| cells[3] == theirs && cells[4] == ours)
     }

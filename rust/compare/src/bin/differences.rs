@@ -24,7 +24,7 @@ mod run {
     use std::panic::{AssertUnwindSafe, catch_unwind};
 
     use compare::Reading;
-    use compare::domain::{seed_unwritten, stack_form};
+    use compare::domain::stack_form;
 
     const NONE: u64 = 0;
     const ZIHPM: u64 = 1 << 1;
@@ -268,11 +268,6 @@ mod run {
         random().map(|w| w & 0xFFFF_FFFF | 3).filter(move |w| opcode(w & 0x7F) && funct3.contains(&(w >> 12 & 7))).take(100_000)
     }
 
-    /// All words that read seed and do not write it.
-    fn unwritten() -> impl Iterator<Item = u64> {
-        (0..1 << 8).map(|k| 0x0150_0073 | k << 7).filter(|raw| seed_unwritten(*raw))
-    }
-
     const ANY: &[u64] = &[0, 1, 2, 3, 4, 5, 6, 7];
 
     pub fn all() {
@@ -323,17 +318,14 @@ mod run {
         );
         let system = |flags, raw| Call::System { flags, raw };
         table(
-            "The SYSTEM reading",
-            &[row("a set or clear of nothing on seed, with crypto", system(CRYPTO, 0x0150_22F3), "2 d")
-                .with(unwritten().map(|w| system(CRYPTO, w)))],
-        );
-        table(
             "The SYSTEM reading: where the manuals want something else",
             &[
                 row("sret with no S", system(NONE, 0x1020_0073), "Sret"),
                 row("sfence.vma with no S", system(NONE, 0x12B5_0073), "sfence.vma 10, 11"),
                 row("hfence.vvma with no H", system(NONE, 0x22B5_0073), "hfence.vvma 10, 11"),
                 row("hfence.gvma with no H", system(NONE, 0x62B5_0073), "hfence.gvma 10, 11"),
+                row("csrrs x5,seed,x0: seed read and not written", system(CRYPTO, 0x0150_22F3), "set Seed, rd 5, 0"),
+                row("csrrci x5,seed,0: the same", system(CRYPTO, 0x0150_72F3), "clear immediate Seed, rd 5, 0"),
                 row("csrrs x10,hpmcounter3,x0", system(ZIHPM, 0xC030_2573), "2")
                     .with((0xC03..=0xC1F).map(|a| system(ALL, a << 20 | 0x2573))),
                 row("ebreak", system(ALL, 0x0010_0073), "1"),

@@ -5,12 +5,11 @@
 //! refusal 2's reason, or a zero.
 //!
 //! The first entries are document 01's own words, with the answers typed in by hand as the document has them. Where the Rust's answer
-//! is the wanted one too, it is held to the typed one. Then come the Rust's own answers, but for a seed that is read and not written,
-//! which the Rust takes. After them come words with low two bits 10, which the Rust does not read: their answers are the fields that the
-//! words are made of. Then come words that are refused with 2, the letters of the reasons typed in by hand, and words beside those that
-//! read seed and do not write it. All these have the harts 0 to 7 in turn. Then each hart has each gate open alone and closed alone, so
-//! that its neighbour's profile would change the answer. The last entries have no such hart or no such reading, and document 02's records
-//! for that.
+//! is the wanted one too, it is held to the typed one. Then come the Rust's own answers. After them come words with low two bits
+//! 10, which the Rust does not read: their answers are the fields that the words are made of. Then come words that are refused with 2,
+//! the letters of the reasons typed in by hand. All these have the harts 0 to 7 in turn. Then each hart has each gate open alone and
+//! closed alone, so that its neighbour's profile would change the answer. The last entries have no such hart or no such reading, and
+//! document 02's records for that.
 //!
 //! The Rust gives no reasons. A letter follows from the word and from the Rust's look-up (`compare::reasons`), and a typed one is held to
 //! that.
@@ -80,13 +79,14 @@ mod run {
 
         /// An answer that is not taken from the Rust, but held to the Rust's or to the wanted one.
         fn told(&mut self, reading: Reading, p: Profile, raw: u64, answer: u64) {
-            assert_eq!(right(reading, p, raw), answer, "{} {raw:#X}", reading.name());
+            let other = if domain::contains(reading, raw) { ask(reading, p, raw) } else { domain::wanted(reading, raw) };
+            assert_eq!(other, answer, "{} {raw:#X}", reading.name());
             self.push(reading, p, raw, answer);
         }
 
-        /// What the Rust says of it, or is wanted where that differs.
+        /// What the Rust says of it.
         fn asked(&mut self, reading: Reading, p: Profile, raw: u64) {
-            self.push(reading, p, raw, right(reading, p, raw));
+            self.push(reading, p, raw, ask(reading, p, raw));
         }
     }
 
@@ -106,12 +106,9 @@ mod run {
         entry
     }
 
-    /// The Rust's answer, which is the same with and without overflow checks, with the letter that it leaves out; outside its domain the
-    /// wanted one.
-    fn right(reading: Reading, p: Profile, raw: u64) -> u64 {
-        if !domain::contains(p, reading, raw) {
-            return domain::wanted(reading, raw);
-        }
+    /// The Rust's answer, which is the same with and without overflow checks, with the letter that it leaves out.
+    fn ask(reading: Reading, p: Profile, raw: u64) -> u64 {
+        assert!(domain::contains(reading, raw), "{raw:#X} is outside the domain");
         let answer = Original::new(p).read(reading, raw);
         assert_eq!(answer, Checked::new(p).read(reading, raw), "{raw:#X}");
         assert_ne!(answer, u64::MAX, "{raw:#X}: the register read is not the one of its address");
@@ -429,35 +426,9 @@ mod run {
             refused(Profile::EMPTY, b'b', &[raw]);
             refused(all_but(1 << bit, 0), b'b', &[raw]);
         }
-        // seed read and not written, by csrrs, csrrc, csrrsi and csrrci: d where it is available and b where it is not
-        let unwritten = [0x0150_20F3, 0x0150_3073, 0x0150_6FF3, 0x0150_72F3, 0xDEAD_BEEF_0150_20F3, 0x1_0150_7073];
-        for p in [CRYPTO, Profile::FULL] {
-            refused(p, b'd', &unwritten);
-        }
-        for p in [Profile::EMPTY, all_but(CRYPTO.flags, 0)] {
-            refused(p, b'b', &unwritten);
-        }
         // cycle and hgeip written, whether or not they are available
         for p in [Profile::EMPTY, all_but(1, 0), all_but(1 << 4, 0), Profile::FULL] {
             refused(p, b'a', &[0xC000_9073, 0xE120_9073]);
-        }
-    }
-
-    const CRYPTO: Profile = Profile { flags: 1 << 7, custom: 0 };
-
-    /// Words that write seed, and all words one bit away from one that reads it and does not write it.
-    fn seed(list: &mut List) {
-        for p in [CRYPTO, Profile::FULL] {
-            // csrrw of x0 and csrrwi of 0 write; csrrs and csrrc of x1, csrrsi and csrrci of 31
-            list.told(System, p, 0x0150_12F3, u64::from_le_bytes([0x05, 1, 0x15, 0, 5, 0, 0, 0]));
-            list.told(System, p, 0x0150_52F3, u64::from_le_bytes([0x06, 1, 0x15, 0, 5, 0, 0, 0]));
-            list.told(System, p, 0x0150_A0F3, u64::from_le_bytes([0x05, 2, 0x15, 0, 1, 1, 0, 0]));
-            list.told(System, p, 0x0150_B073, u64::from_le_bytes([0x05, 3, 0x15, 0, 0, 1, 0, 0]));
-            list.told(System, p, 0x015F_EFF3, u64::from_le_bytes([0x06, 2, 0x15, 0, 31, 31, 0, 0]));
-            list.told(System, p, 0x015F_F2F3, u64::from_le_bytes([0x06, 3, 0x15, 0, 5, 31, 0, 0]));
-            for raw in [0x0150_20F3, 0x0150_3073, 0x0150_6FF3, 0x0150_72F3] {
-                (0..64).for_each(|bit| list.asked(System, p, raw ^ 1 << bit));
-            }
         }
     }
 
@@ -468,7 +439,7 @@ mod run {
         let custom = [(0x7C00_20F3, 0), (0x7FF0_20F3, 63)].map(|(raw, bit)| (raw, Profile { flags: 0, custom: 1 << bit }));
         for (raw, open) in flags.chain(custom) {
             let closed = Profile { flags: 0xFF ^ open.flags, custom: !open.custom };
-            let (read, refused) = (right(System, open, raw), right(System, closed, raw));
+            let (read, refused) = (ask(System, open, raw), ask(System, closed, raw));
             assert!(refusal(read).is_none() && refusal(refused) == Some(2), "{raw:#X}");
             for hart in 0..8 {
                 list.entries.push(entry(System as u8, open, raw, read, hart));
@@ -505,7 +476,6 @@ mod run {
         memory(&mut list, &mut random);
         stack(&mut list, &mut random);
         reasons(&mut list);
-        seed(&mut list);
         gates(&mut list);
         spoilt(&mut list);
         list
