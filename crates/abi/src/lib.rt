@@ -1,4 +1,6 @@
 // How a profile and a written length cross the C ABI: what the exported crates have in common.
+#![tactic(auto)]
+
 ghost use Rattle.std.specs.Prelude.{◌≡◌};
 ghost use Rattle.abi.specs.Abi.{profile, length_or};
 

@@ -1,10 +1,12 @@
 // The CSRs with their addresses and masks, and no profile: the CSRs of Miralis's src/arch/registers.rs.
+#![tactic(auto)]
+
 ghost use Rattle.std.specs.Prelude.{◌≡◌, ◌+◌, ◌^◌, ◌<◌, leb};
 ghost use Rattle.csr_addresses.specs.Address.{at_if, idx_def};
 ghost use Rattle.csr_addresses.specs.Masks.{masks_of};
 
 // A RISC-V Control and Status Register (CSR).
-#[derive(Drop)]
+#[derive(Clone, Copy)]
 pub enum Csr {
     // Machine mode CSRs
     //
@@ -387,14 +389,14 @@ pub mod address {
 }
 
 // A register's address, or the refusal's number.
-#[derive(Drop)]
+#[derive(Clone, Copy)]
 pub enum Idx {
     At(usize),
     Refused(u8),
 }
 
 // The four masks of `Csr`, for their proved values.
-#[derive(Drop)]
+#[derive(Clone, Copy)]
 pub struct Masks {
     pub pmp_cfg_lock: usize,
     pub pmp_cfg_legal: usize,

@@ -1,4 +1,6 @@
 // Which CSRs each profile makes available: `decode_csr` of Miralis's src/decoder.rs, as a look-up and a gate.
+#![tactic(auto)]
+
 ghost use Rattle.std.specs.Prelude.{◌≡◌, ℕ};
 ghost use Rattle.csr_addresses.specs.declared.Idx.TheVariants.{At};
 ghost use Rattle.csr_addresses.specs.Address.{idx_def};
@@ -9,7 +11,7 @@ use csr_addresses::{Csr, address};
 use profiles::Profile;
 
 // What a register waits for: nothing, a flag of the profile, or a bit of its custom mask.
-#[derive(Drop)]
+#[derive(Clone, Copy)]
 pub enum Gate {
     Always,
     Zicntr,
@@ -78,7 +80,7 @@ fn gate_of(register: Csr) -> Gate
 }
 
 // What a CSR address has, whatever the profile: a register, behind its gate.
-#[derive(Drop)]
+#[derive(Clone, Copy)]
 enum Gated {
     Holds(Gate, Csr),
     Empty,
@@ -197,7 +199,7 @@ fn gated_at(csr: usize) -> Gated
 }
 
 // What a CSR address has under a profile: its register, one that only other profiles make available, or one that none does.
-#[derive(Drop)]
+#[derive(Clone, Copy)]
 pub enum CsrLookup {
     Found(Csr),
     GateOff,

@@ -1,10 +1,12 @@
 // Where two tables of profiles differ first: the first hart, and then the lowest address, whose availability differs.
+#![tactic(auto)]
+
 ghost use Rattle.differences.specs.Difference.{FirstDifference};
 
 use harts::Table;
 
 // Where two tables differ first.
-#[derive(Drop)]
+#[derive(Clone, Copy)]
 pub enum Difference {
     At { hart: usize, csr: usize },
     Nowhere,

@@ -1,4 +1,6 @@
 // The exported batch: a night's traps in one call. It is thin over `batch`.
+#![tactic(auto)]
+
 ghost use Rattle.std.specs.Prelude.{◌≡◌};
 ghost use Rattle.matnosoru_batch.specs.Batch.{answer_of, slots_or, output_of};
 

@@ -1,5 +1,7 @@
 // The exported functions of what a hart has and counts with: CSRs, tables of eight harts, addresses; and the header's number. Each is thin
 // over the crates below.
+#![tactic(auto)]
+
 ghost use Rattle.std.specs.Prelude.{◌≡◌, ◌+◌, ◌*◌, ◌%◌, ◌^◌, ◌<◌, if◌then◌else◌};
 ghost use Rattle.utils.specs.Width.{width_from};
 ghost use Rattle.csrs.specs.Gates.{decode_csr_def, available};

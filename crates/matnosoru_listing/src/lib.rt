@@ -1,4 +1,6 @@
 // The exported functions of a whole log's listing: its lines, in order. Each is thin over the crates below.
+#![tactic(auto)]
+
 ghost use Rattle.std.specs.Prelude.{◌≡◌, length};
 ghost use Rattle.octets.specs.Bytes.{emitted, emitted_out};
 ghost use Rattle.state_bytes.specs.StateBytes.{current_at};

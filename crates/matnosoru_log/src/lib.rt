@@ -1,4 +1,6 @@
 // The exported functions of the trap log for a record by itself, under a profile. Each is thin over the crates below.
+#![tactic(auto)]
+
 ghost use Rattle.std.specs.Prelude.{◌≡◌, length};
 ghost use Rattle.profiles.specs.Profile.{empty_profile};
 ghost use Rattle.log_records.specs.declared.Record.TheVariants.{Refusal, Hart};

@@ -1,4 +1,6 @@
 // The exported functions that walk over a whole trap log: its state at the start, and past each record. Each is thin over the crates below.
+#![tactic(auto)]
+
 ghost use Rattle.std.specs.Prelude.{◌≡◌, cond, ◌*◌, ◌^◌, eqb, length};
 ghost use Rattle.state_bytes.specs.StateBytes.{started_out, current_at};
 ghost use Rattle.log_steps.specs.Next.{read_under, record_length, next_state};

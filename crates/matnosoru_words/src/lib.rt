@@ -1,4 +1,6 @@
 // The exported functions of words: the three readings, and the writing of a word and of its record. Each is thin over the crates below.
+#![tactic(auto)]
+
 ghost use Rattle.std.specs.Prelude.{◌≡◌, ◌%◌, ◌≤◌, length};
 ghost use Rattle.octets.specs.Bytes.{le_bytes, emitted, emitted_out};
 ghost use Rattle.log_writer.specs.Written.{written_def, written_out};

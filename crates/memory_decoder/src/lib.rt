@@ -1,5 +1,7 @@
 // Loads and stores, the compressed ones among them, and how a word is read as one: `decode_load` and `decode_store` of Miralis's
 // src/decoder.rs, with the stack-based forms that are `todo!` there.
+#![tactic(auto)]
+
 ghost use Rattle.std.specs.Prelude.{◌≡◌, ◌+◌, ◌%◌, ◌^◌, ◌<◌};
 ghost use Rattle.utils.specs.Field.{fld};
 ghost use Rattle.utils.specs.Signed.{signed};
@@ -41,7 +43,7 @@ const C_SDSP: usize = 0b111;
 const SP: Register = Register(2);
 
 // A load instruction.
-#[derive(Drop)]
+#[derive(Clone, Copy)]
 pub struct LoadInstr {
     pub rd: Register,
     pub rs1: Register,
@@ -52,7 +54,7 @@ pub struct LoadInstr {
 }
 
 // A store instruction.
-#[derive(Drop)]
+#[derive(Clone, Copy)]
 pub struct StoreInstr {
     pub rs2: Register,
     pub rs1: Register,
@@ -62,14 +64,14 @@ pub struct StoreInstr {
 }
 
 // What a word is read as in the load reading: the load, or the refusal's number.
-#[derive(Drop)]
+#[derive(Clone, Copy)]
 pub enum LoadRead {
     Load(LoadInstr),
     Refused(u8),
 }
 
 // What a word is read as in the store reading: the store, or the refusal's number.
-#[derive(Drop)]
+#[derive(Clone, Copy)]
 pub enum StoreRead {
     Store(StoreInstr),
     Refused(u8),

@@ -1,5 +1,7 @@
 // Loads and stores as words: the way back from the load and store readings of the crate `memory_decoder`. An instruction may hold any
 // numbers; one that has no word is refused with document 01's numbers.
+#![tactic(auto)]
+
 ghost use Rattle.std.specs.Prelude.{true, false, ◌≡◌, ◌<◌, ◌≤◌};
 ghost use Rattle.utils.specs.Signed.{code_def};
 ghost use Rattle.forms.specs.Layout.{build, rd as the_rd};

@@ -1,4 +1,6 @@
 // General purpose registers, of Miralis's src/arch/registers.rs. Its CSRs are in the crate `csr_addresses`.
+#![tactic(auto)]
+
 ghost use Rattle.std.specs.Prelude.{◌≡◌, ◌%◌, ◌^◌};
 ghost use Rattle.utils.specs.Field.{fld};
 ghost use Rattle.registers.specs.Numbers.{are_valid};
@@ -6,7 +8,7 @@ ghost use Rattle.registers.specs.Numbers.{are_valid};
 // General purpose registers.
 //
 // The number may be any: reading makes only 0 to 31, and writing refuses the others.
-#[derive(Drop)]
+#[derive(Clone, Copy)]
 pub struct Register(pub usize);
 
 impl Register {

@@ -1,5 +1,7 @@
 // RISC-V instruction encoder: the way back from the crate `system_decoder`. A shape may hold any numbers; one that has no word is refused
 // with document 01's numbers.
+#![tactic(auto)]
+
 ghost use Rattle.std.specs.Prelude.{◌≡◌, Bool, ◌*◌, ◌^◌};
 ghost use Rattle.forms.specs.declared.Wrote.TheVariants.{Word};
 ghost use Rattle.forms.specs.Answer.{number_in};

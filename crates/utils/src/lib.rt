@@ -1,5 +1,7 @@
 // The arithmetic of Miralis's src/utils.rs, and `Width` of its src/arch/mod.rs: widths of accesses, signed fields, sign
 // extension, addresses.
+#![tactic(auto)]
+
 ghost use Rattle.std.specs.Prelude.{◌≡◌, ◌+◌, ◌%◌, ◌^◌, ◌<◌, ◌≤◌};
 ghost use Rattle.utils.specs.Field.{fld};
 ghost use Rattle.utils.specs.Signed.{signed, twos, parts, code_def};
@@ -10,7 +12,7 @@ ghost use Rattle.utils.specs.Width.{bits_of, bytes_of, width_from, half_of, exte
 //  - `Byte2`: 16 bits (2 bytes)
 //  - `Byte4`: 32 bits (4 bytes)
 //  - `Byte8`: 64 bits (8 bytes)
-#[derive(Drop)]
+#[derive(Clone, Copy)]
 pub enum Width {
     Byte,
     Byte2,
@@ -19,7 +21,7 @@ pub enum Width {
 }
 
 // The width of so many bits; the Rust panics if there is no such width.
-#[derive(Drop)]
+#[derive(Clone, Copy)]
 pub enum WidthFrom {
     Is(Width),
     Invalid,
@@ -107,7 +109,7 @@ pub fn bits_to_int(raw: usize, start_bit: usize) -> isize
 }
 
 // A signed number taken apart: n is Up(n), and -(m + 1) is Down(m), so that the least isize has its place too.
-#[derive(Drop)]
+#[derive(Clone, Copy)]
 pub enum Sign {
     Up(usize),
     Down(usize),
@@ -125,7 +127,7 @@ pub fn sign_of(z: isize) -> Sign
 }
 
 // The code of a signed number in a field, or `Out`.
-#[derive(Drop)]
+#[derive(Clone, Copy)]
 pub enum Code {
     Is(usize),
     Out,
