@@ -1,0 +1,9 @@
+-- What it puts together is the word of C.LWSP's form.
+use Rattle.utils.proofs.Prelude.{refl}
+use Rattle.forms.proofs.Shifts.{put_together}
+use Rattle.memory_decoder.specs.Forms.{c_lwsp}
+use Rattle.memory_encoder.specs.LoadStore.{operands}
+use Rattle.memory_encoder.proofs.stack_load_word.Goals as goal
+
+pub returns : goal.returns
+returns c = put_together c_lwsp refl refl (operands c.args.rd 2 0b010 c.args.imm)
