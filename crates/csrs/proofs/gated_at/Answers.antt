@@ -1,5 +1,5 @@
 -- Each arm names a register and its address, a range is the block of a family, and where no arm answers there is no row.
-use Rattle.utils.proofs.Prelude.{◌≡◌, refl, sym, ap, ◌∙◌, false, List, [], ◌∷◌, ℕ, ◌^◌, zero-le, arith}
+use Rattle.utils.proofs.Prelude.{◌≡◌, refl, sym, ap, ◌∙◌, false, List, [], ◌∷◌, ℕ, ◌^◌, zero-le, arith, rules}
 use Rattle.utils.proofs.Arms.{any, run, climb}
 use Rattle.csr_addresses.specs.declared.Csr.{Csr}
 use Rattle.csr_addresses.specs.declared.Idx.TheVariants.{At}
@@ -115,7 +115,7 @@ placed c =
       | in-928-to-943+then-id-eq0 w ↦ family w.found-is (pmpcfg (omega arith) (omega arith) w.if-id-eq0.true) refl
       | in-944-to-1007 w ↦ family w.found-is (pmpaddr (omega arith) (omega arith)) refl
       | in-1984-to-2047 w ↦ family w.found-is (custom (omega arith) (omega arith)) refl
-      | in-2819-to-2847 w ↦ family w.found-is (counter (climb 1 2818 keys tt (omega arith) w.in-2819-to-2847.in_default-own.rest) (omega arith)) refl
+      | in-2819-to-2847 w ↦ family w.found-is (counter (climb 1 2818 keys tt (omega arith) (search rules)) (omega arith)) refl
     ]
 
 pub returns-in-1953 : goal.returns-in-1953
@@ -155,23 +155,23 @@ returns-else-id-eq0 c = ap gated_of (sym (odd_pmpcfg (omega arith) (omega arith)
 
 pub returns-in_default : goal.returns-in_default
 unfolding all keeps only any
-returns-in_default c = ap gated_of (sym (gap keys 0 803 tt zero-le (omega arith) c.in_default.in_default-own.rest))
+returns-in_default c = ap gated_of (sym (gap keys 0 803 tt zero-le (omega arith) (search rules)))
 
 pub returns-in_default-2 : goal.returns-in_default-2
 unfolding all keeps only any
-returns-in_default-2 c = ap gated_of (sym (gap keys 832 928 tt (omega arith) (omega arith) c.in_default.in_default-own.rest))
+returns-in_default-2 c = ap gated_of (sym (gap keys 832 928 tt (omega arith) (omega arith) (search rules)))
 
 pub returns-in_default-3 : goal.returns-in_default-3
 unfolding all keeps only any
-returns-in_default-3 c = ap gated_of (sym (gap keys 1008 1984 tt (omega arith) (omega arith) c.in_default.in_default-own.rest))
+returns-in_default-3 c = ap gated_of (sym (gap keys 1008 1984 tt (omega arith) (omega arith) (search rules)))
 
 pub returns-in_default-4 : goal.returns-in_default-4
 unfolding all keeps only any
-returns-in_default-4 c = ap gated_of (sym (gap keys 2048 2818 tt (omega arith) (omega arith) c.in_default.in_default-own.rest))
+returns-in_default-4 c = ap gated_of (sym (gap keys 2048 2818 tt (omega arith) (omega arith) (search rules)))
 
 pub returns-in_default-5 : goal.returns-in_default-5
 unfolding all keeps only any
-returns-in_default-5 c = ap gated_of (sym (gap keys 2848 (2 ^ 64) tt (omega arith) c.ranges.csr.fits c.in_default.in_default-own.rest))
+returns-in_default-5 c = ap gated_of (sym (gap keys 2848 (2 ^ 64) tt (omega arith) c.ranges.csr.fits (search rules)))
 
 pub gate_of-requires : goal.gate_of-requires
 gate_of-requires c = (_, (placed c).at)
