@@ -1,5 +1,5 @@
 -- What a table tells of the words that it accepts, and that two tables accept no word in common. Assumes nothing.
-use Rattle.utils.proofs.Prelude.{◌≡◌, refl, sym, subst, ◌⊎◌, inl, inr, Bool, true, ◌&&◌, List, [], ◌∷◌, ◌++◌, ℕ, ◌^◌, ◌<◌, eqb, ltb, leb}
+use Rattle.utils.proofs.Prelude.{◌≡◌, refl, subst, ◌⊎◌, inl, inr, Bool, true, ◌&&◌, List, [], ◌∷◌, ◌++◌, ℕ, ◌^◌, ◌<◌, eqb, ltb, leb}
 use Rattle.utils.proofs.Prelude.{lt_of_lt_of_le, pow_mono, eqb-true, leb-true}
 use Rattle.forms.specs.Layout.{Layout, const, take, given, avoid, Operand, imm, rd, rs1, rs2, funct, csr, short, all, every, bits, width, size, matches, spares, read, readable}
 use Rattle.forms.specs.Answer.{Answer, value, refusal}

@@ -4,7 +4,7 @@ use Rattle.utils.proofs.Prelude.{◌≡◌, refl, sym, ap, ◌∙◌, subst, Boo
 use Rattle.utils.proofs.Prelude.{lt_of_lt_of_le, get_or, eqb-true, ltb-true, leb-true}
 use Rattle.utils.specs.declared.Code.TheVariants.{Is, Out}
 use Rattle.forms.specs.declared.Wrote.TheVariants.{Word}
-use Rattle.forms.specs.Layout.{Layout, Operand, imm, rd, rs1, rs2, funct, csr, short, code, all, good, every}
+use Rattle.forms.specs.Layout.{Layout, Operand, imm, rd, rs1, rs2, funct, csr, short, all, good, every}
 use Rattle.forms.specs.Layout.{Piece, piece, from, lit, pieces, place, gather, width, size, read, build, readable, chosen, holds}
 use Rattle.forms.specs.Answer.{Answer, value, refusal}
 use Rattle.forms.specs.Sound.{first, distinct, sound}

@@ -5,7 +5,7 @@ use native.Mathlib.Nat.{div-one}
 use lib.Pow.{field, shr-shr, mod-mod-pow}
 use Rattle.forms.specs.Layout.{Layout, const, take, given, avoid, Operand, imm, others, all, bits, width, matches, build, read, spares}
 use Rattle.forms.specs.Layout.{Piece, piece, from, lit, pieces, holds, readable, chosen, good}
-use Rattle.forms.specs.Answer.{Answer, value, refusal, number_in}
+use Rattle.forms.specs.Answer.{Answer, value, refusal}
 use Rattle.forms.specs.Sound.{first, any, Bit, bit, spread, of_word, of_pieces, differs, clash, apart, distinct, sound}
 use Rattle.utils.proofs.Tests.{both, either, on}
 use Rattle.forms.proofs.Answer.{no_value}
