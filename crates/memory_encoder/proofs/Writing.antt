@@ -1,5 +1,5 @@
 -- What is known of a load or a store settles its form, and the word of its immediate's code: for any forms that the tables may have. Assumes nothing.
-use Rattle.utils.proofs.Prelude.{◌≡◌, refl, sym, ap, ◌∙◌, Bool, true, false, ◌&&◌, ◌||◌, not, cond, List, [], ◌∷◌, ℕ, ◌%◌, ◌<◌, arith, eqb, ltb, get_or}
+use Rattle.utils.proofs.Prelude.{◌≡◌, refl, sym, ap, ◌∙◌, Bool, true, false, ◌&&◌, ◌||◌, not, cond, List, [], ◌∷◌, ℕ, ◌%◌, ◌<◌, eqb, ltb, get_or}
 use Rattle.utils.proofs.Prelude.{ℤ, mag, w64, SFits, to_z, of_z, to_z-of_z, lt-ltb, ltb-true}
 use denote.Enum.Declared.{tag_of}
 use Rattle.utils.specs.Signed.{twos, code_def}

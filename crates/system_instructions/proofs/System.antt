@@ -11,7 +11,6 @@ use Rattle.profiles.specs.declared.Profile.{Profile}
 use Rattle.csrs.specs.Gates.{decode_csr_def, available}
 use Rattle.csrs.proofs.Laws.{found_idx, found_lt, own, available_found, found_available, none_found, look}
 use Rattle.forms.specs.declared.Wrote.TheVariants.{Word}
-use Rattle.forms.specs.Layout.{csr}
 use Rattle.forms.specs.Answer.{Answer, value, refusal}
 use Rattle.forms.specs.Meaning.{read_of}
 use Rattle.forms.specs.Demand3.{RefusedExactly, OnlyWord}

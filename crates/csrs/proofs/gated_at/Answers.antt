@@ -1,6 +1,6 @@
 -- Each arm names a register and its address, a range is the block of a family, and where no arm answers there is no row.
-use Rattle.utils.proofs.Prelude.{◌≡◌, refl, sym, ap, ◌∙◌, false, List, [], ◌∷◌, ℕ, ◌^◌, ◌≤◌, zero-le, arith, rules}
-use Rattle.utils.proofs.Arms.{Nots, any, run, climb}
+use Rattle.utils.proofs.Prelude.{◌≡◌, refl, sym, ap, ◌∙◌, false, List, [], ◌∷◌, ℕ, ◌^◌, zero-le, arith}
+use Rattle.utils.proofs.Arms.{any, run, climb}
 use Rattle.csr_addresses.specs.declared.Csr.{Csr}
 use Rattle.csr_addresses.specs.declared.Idx.TheVariants.{At}
 use Rattle.csr_addresses.specs.Address.{idx_def}
@@ -39,83 +39,83 @@ placed : (c : goal.Joined-csr) → Placed c.match-csr.found c.args.csr
 unfolding any run is_never
 placed c =
     elim c.match-csr.branch [
-      in-768 w ↦ key w.found-is w.in-768.is refl refl
-    | in-769 w ↦ key w.found-is w.in-769.is refl refl
-    | in-772 w ↦ key w.found-is w.in-772.is refl refl
-    | in-773 w ↦ key w.found-is w.in-773.is refl refl
-    | in-832 w ↦ key w.found-is w.in-832.is refl refl
-    | in-836 w ↦ key w.found-is w.in-836.is refl refl
-    | in-3860 w ↦ key w.found-is w.in-3860.is refl refl
-    | in-3857 w ↦ key w.found-is w.in-3857.is refl refl
-    | in-3858 w ↦ key w.found-is w.in-3858.is refl refl
-    | in-3859 w ↦ key w.found-is w.in-3859.is refl refl
-    | in-2816 w ↦ key w.found-is w.in-2816.is refl refl
-    | in-2818 w ↦ key w.found-is w.in-2818.is refl refl
-    | in-3072 w ↦ key w.found-is w.in-3072.is refl refl
-    | in-3073 w ↦ key w.found-is w.in-3073.is refl refl
-    | in-3074 w ↦ key w.found-is w.in-3074.is refl refl
-    | in-800 w ↦ key w.found-is w.in-800.is refl refl
-    | in-774 w ↦ key w.found-is w.in-774.is refl refl
-    | in-778 w ↦ key w.found-is w.in-778.is refl refl
-    | in-1863 w ↦ key w.found-is w.in-1863.is refl refl
-    | in-3861 w ↦ key w.found-is w.in-3861.is refl refl
-    | in-770 w ↦ key w.found-is w.in-770.is refl refl
-    | in-771 w ↦ key w.found-is w.in-771.is refl refl
-    | in-842 w ↦ key w.found-is w.in-842.is refl refl
-    | in-843 w ↦ key w.found-is w.in-843.is refl refl
-    | in-1952 w ↦ key w.found-is w.in-1952.is refl refl
-    | in-834 w ↦ key w.found-is w.in-834.is refl refl
-    | in-833 w ↦ key w.found-is w.in-833.is refl refl
-    | in-835 w ↦ key w.found-is w.in-835.is refl refl
-    | in-256 w ↦ key w.found-is w.in-256.is refl refl
-    | in-260 w ↦ key w.found-is w.in-260.is refl refl
-    | in-261 w ↦ key w.found-is w.in-261.is refl refl
-    | in-262 w ↦ key w.found-is w.in-262.is refl refl
-    | in-266 w ↦ key w.found-is w.in-266.is refl refl
-    | in-320 w ↦ key w.found-is w.in-320.is refl refl
-    | in-321 w ↦ key w.found-is w.in-321.is refl refl
-    | in-322 w ↦ key w.found-is w.in-322.is refl refl
-    | in-323 w ↦ key w.found-is w.in-323.is refl refl
-    | in-324 w ↦ key w.found-is w.in-324.is refl refl
-    | in-333 w ↦ key w.found-is w.in-333.is refl refl
-    | in-384 w ↦ key w.found-is w.in-384.is refl refl
-    | in-1448 w ↦ key w.found-is w.in-1448.is refl refl
-    | in-1536 w ↦ key w.found-is w.in-1536.is refl refl
-    | in-1538 w ↦ key w.found-is w.in-1538.is refl refl
-    | in-1539 w ↦ key w.found-is w.in-1539.is refl refl
-    | in-1605 w ↦ key w.found-is w.in-1605.is refl refl
-    | in-1604 w ↦ key w.found-is w.in-1604.is refl refl
-    | in-1540 w ↦ key w.found-is w.in-1540.is refl refl
-    | in-3602 w ↦ key w.found-is w.in-3602.is refl refl
-    | in-1543 w ↦ key w.found-is w.in-1543.is refl refl
-    | in-1546 w ↦ key w.found-is w.in-1546.is refl refl
-    | in-1542 w ↦ key w.found-is w.in-1542.is refl refl
-    | in-1541 w ↦ key w.found-is w.in-1541.is refl refl
-    | in-1603 w ↦ key w.found-is w.in-1603.is refl refl
-    | in-1610 w ↦ key w.found-is w.in-1610.is refl refl
-    | in-1664 w ↦ key w.found-is w.in-1664.is refl refl
-    | in-512 w ↦ key w.found-is w.in-512.is refl refl
-    | in-516 w ↦ key w.found-is w.in-516.is refl refl
-    | in-517 w ↦ key w.found-is w.in-517.is refl refl
-    | in-576 w ↦ key w.found-is w.in-576.is refl refl
-    | in-577 w ↦ key w.found-is w.in-577.is refl refl
-    | in-578 w ↦ key w.found-is w.in-578.is refl refl
-    | in-579 w ↦ key w.found-is w.in-579.is refl refl
-    | in-580 w ↦ key w.found-is w.in-580.is refl refl
-    | in-640 w ↦ key w.found-is w.in-640.is refl refl
-    | in-8 w ↦ key w.found-is w.in-8.is refl refl
-    | in-9 w ↦ key w.found-is w.in-9.is refl refl
-    | in-10 w ↦ key w.found-is w.in-10.is refl refl
-    | in-15 w ↦ key w.found-is w.in-15.is refl refl
-    | in-3104 w ↦ key w.found-is w.in-3104.is refl refl
-    | in-3105 w ↦ key w.found-is w.in-3105.is refl refl
-    | in-3106 w ↦ key w.found-is w.in-3106.is refl refl
-    | in-21 w ↦ key w.found-is w.in-21.is refl refl
-    | in-803-to-831 w ↦ family w.found-is (event (omega arith) (omega arith)) refl
-    | in-928-to-943+then-id-eq0 w ↦ family w.found-is (pmpcfg (omega arith) (omega arith) w.if-id-eq0.true) refl
-    | in-944-to-1007 w ↦ family w.found-is (pmpaddr (omega arith) (omega arith)) refl
-    | in-1984-to-2047 w ↦ family w.found-is (custom (omega arith) (omega arith)) refl
-    | in-2819-to-2847 w ↦ family w.found-is (counter (climb 1 2818 keys tt (omega arith) w.in-2819-to-2847.in_default-own.rest) (omega arith)) refl
+      | in-768 w ↦ key w.found-is w.in-768.is refl refl
+      | in-769 w ↦ key w.found-is w.in-769.is refl refl
+      | in-772 w ↦ key w.found-is w.in-772.is refl refl
+      | in-773 w ↦ key w.found-is w.in-773.is refl refl
+      | in-832 w ↦ key w.found-is w.in-832.is refl refl
+      | in-836 w ↦ key w.found-is w.in-836.is refl refl
+      | in-3860 w ↦ key w.found-is w.in-3860.is refl refl
+      | in-3857 w ↦ key w.found-is w.in-3857.is refl refl
+      | in-3858 w ↦ key w.found-is w.in-3858.is refl refl
+      | in-3859 w ↦ key w.found-is w.in-3859.is refl refl
+      | in-2816 w ↦ key w.found-is w.in-2816.is refl refl
+      | in-2818 w ↦ key w.found-is w.in-2818.is refl refl
+      | in-3072 w ↦ key w.found-is w.in-3072.is refl refl
+      | in-3073 w ↦ key w.found-is w.in-3073.is refl refl
+      | in-3074 w ↦ key w.found-is w.in-3074.is refl refl
+      | in-800 w ↦ key w.found-is w.in-800.is refl refl
+      | in-774 w ↦ key w.found-is w.in-774.is refl refl
+      | in-778 w ↦ key w.found-is w.in-778.is refl refl
+      | in-1863 w ↦ key w.found-is w.in-1863.is refl refl
+      | in-3861 w ↦ key w.found-is w.in-3861.is refl refl
+      | in-770 w ↦ key w.found-is w.in-770.is refl refl
+      | in-771 w ↦ key w.found-is w.in-771.is refl refl
+      | in-842 w ↦ key w.found-is w.in-842.is refl refl
+      | in-843 w ↦ key w.found-is w.in-843.is refl refl
+      | in-1952 w ↦ key w.found-is w.in-1952.is refl refl
+      | in-834 w ↦ key w.found-is w.in-834.is refl refl
+      | in-833 w ↦ key w.found-is w.in-833.is refl refl
+      | in-835 w ↦ key w.found-is w.in-835.is refl refl
+      | in-256 w ↦ key w.found-is w.in-256.is refl refl
+      | in-260 w ↦ key w.found-is w.in-260.is refl refl
+      | in-261 w ↦ key w.found-is w.in-261.is refl refl
+      | in-262 w ↦ key w.found-is w.in-262.is refl refl
+      | in-266 w ↦ key w.found-is w.in-266.is refl refl
+      | in-320 w ↦ key w.found-is w.in-320.is refl refl
+      | in-321 w ↦ key w.found-is w.in-321.is refl refl
+      | in-322 w ↦ key w.found-is w.in-322.is refl refl
+      | in-323 w ↦ key w.found-is w.in-323.is refl refl
+      | in-324 w ↦ key w.found-is w.in-324.is refl refl
+      | in-333 w ↦ key w.found-is w.in-333.is refl refl
+      | in-384 w ↦ key w.found-is w.in-384.is refl refl
+      | in-1448 w ↦ key w.found-is w.in-1448.is refl refl
+      | in-1536 w ↦ key w.found-is w.in-1536.is refl refl
+      | in-1538 w ↦ key w.found-is w.in-1538.is refl refl
+      | in-1539 w ↦ key w.found-is w.in-1539.is refl refl
+      | in-1605 w ↦ key w.found-is w.in-1605.is refl refl
+      | in-1604 w ↦ key w.found-is w.in-1604.is refl refl
+      | in-1540 w ↦ key w.found-is w.in-1540.is refl refl
+      | in-3602 w ↦ key w.found-is w.in-3602.is refl refl
+      | in-1543 w ↦ key w.found-is w.in-1543.is refl refl
+      | in-1546 w ↦ key w.found-is w.in-1546.is refl refl
+      | in-1542 w ↦ key w.found-is w.in-1542.is refl refl
+      | in-1541 w ↦ key w.found-is w.in-1541.is refl refl
+      | in-1603 w ↦ key w.found-is w.in-1603.is refl refl
+      | in-1610 w ↦ key w.found-is w.in-1610.is refl refl
+      | in-1664 w ↦ key w.found-is w.in-1664.is refl refl
+      | in-512 w ↦ key w.found-is w.in-512.is refl refl
+      | in-516 w ↦ key w.found-is w.in-516.is refl refl
+      | in-517 w ↦ key w.found-is w.in-517.is refl refl
+      | in-576 w ↦ key w.found-is w.in-576.is refl refl
+      | in-577 w ↦ key w.found-is w.in-577.is refl refl
+      | in-578 w ↦ key w.found-is w.in-578.is refl refl
+      | in-579 w ↦ key w.found-is w.in-579.is refl refl
+      | in-580 w ↦ key w.found-is w.in-580.is refl refl
+      | in-640 w ↦ key w.found-is w.in-640.is refl refl
+      | in-8 w ↦ key w.found-is w.in-8.is refl refl
+      | in-9 w ↦ key w.found-is w.in-9.is refl refl
+      | in-10 w ↦ key w.found-is w.in-10.is refl refl
+      | in-15 w ↦ key w.found-is w.in-15.is refl refl
+      | in-3104 w ↦ key w.found-is w.in-3104.is refl refl
+      | in-3105 w ↦ key w.found-is w.in-3105.is refl refl
+      | in-3106 w ↦ key w.found-is w.in-3106.is refl refl
+      | in-21 w ↦ key w.found-is w.in-21.is refl refl
+      | in-803-to-831 w ↦ family w.found-is (event (omega arith) (omega arith)) refl
+      | in-928-to-943+then-id-eq0 w ↦ family w.found-is (pmpcfg (omega arith) (omega arith) w.if-id-eq0.true) refl
+      | in-944-to-1007 w ↦ family w.found-is (pmpaddr (omega arith) (omega arith)) refl
+      | in-1984-to-2047 w ↦ family w.found-is (custom (omega arith) (omega arith)) refl
+      | in-2819-to-2847 w ↦ family w.found-is (counter (climb 1 2818 keys tt (omega arith) w.in-2819-to-2847.in_default-own.rest) (omega arith)) refl
     ]
 
 pub returns-in-1953 : goal.returns-in-1953

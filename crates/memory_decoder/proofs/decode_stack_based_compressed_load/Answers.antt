@@ -1,7 +1,6 @@
 -- Each arm knows funct3, and so the form.
 use Rattle.utils.proofs.Prelude.{◌≡◌, refl, sym, ap, ◌∙◌, ℕ, [], ◌∷◌, arith}
 use Rattle.registers.specs.declared.Register.{Register}
-use Rattle.utils.specs.Field.{fld}
 use Rattle.utils.proofs.Signed.{kept}
 use Rattle.forms.proofs.Facts.{is, isnt, seen, unseen}
 use Rattle.memory_decoder.specs.Load.{load_def}

@@ -2,7 +2,6 @@
 use Rattle.utils.proofs.Prelude.{◌≡◌, refl, sym, ap, ◌∙◌, true, false, [], ◌∷◌, ℕ, ◌≤◌, arith, w64, SFits, to_z, of_z, to_z-of_z}
 use Rattle.utils.specs.Signed.{code_def}
 use Rattle.utils.specs.declared.Code.{Code}
-use Rattle.registers.specs.Numbers.{are_valid}
 use Rattle.registers.proofs.Numbers.{valid}
 use Rattle.forms.specs.declared.Wrote.{Wrote, TheVariants.Word}
 use Rattle.forms.specs.Layout.{build}
