@@ -1,0 +1,20 @@
+-- A refusal leaves the buffer, by the tests on its way.
+use Rattle.matnosoru_batch.proofs.Answers.{no_harts, no_readings, no_table}
+use Rattle.matnosoru_batch.proofs.matnosoru_batch.Goals as goal
+
+pub returns-then-words-harts-clause-out_after : goal.returns-then-words-harts-clause-out_after
+returns-then-words-harts-clause-out_after c =
+    let a = c.args in
+    (no_harts a.table.now a.words.now a.harts.now a.readings.now a.out.now c.if-words-harts.true c.refusal.ensures).1
+
+pub returns-then-words-readings-clause-out_after : goal.returns-then-words-readings-clause-out_after
+returns-then-words-readings-clause-out_after c =
+    let a = c.args in
+    (no_readings a.table.now a.words.now a.harts.now a.readings.now a.out.now c.if-words-harts.false c.if-words-readings.true
+    c.refusal-then-words-readings.ensures).1
+
+pub returns-then-table-ne80-clause-out_after : goal.returns-then-table-ne80-clause-out_after
+returns-then-table-ne80-clause-out_after c =
+    let a = c.args in
+    (no_table a.table.now a.words.now a.harts.now a.readings.now a.out.now c.if-words-harts.false c.if-words-readings.false c.if-table-ne80.true
+    c.refusal-then-table-ne80.ensures).1
