@@ -1,5 +1,5 @@
 -- The answer tells whether there is a word, and so a record.
-use Rattle.utils.proofs.Prelude.{◌≡◌, ap, ◌∙◌, ℕ}
+use Rattle.utils.proofs.Prelude.{◌≡◌, ap, ◌∙◌, ℕ, arith}
 use Rattle.profiles.specs.declared.Profile.{Profile}
 use Rattle.instruction_word.specs.Written.{crossed, written}
 use Rattle.abi.specs.Abi.{profile}
@@ -14,28 +14,28 @@ pub returns-then-answer-gt4294967295-clause-value : goal.returns-then-answer-gt4
 returns-then-answer-gt4294967295-clause-value c =
     let a = c.args in
     let w = word a.flags a.custom a.instruction_word c.write-answer.ensures c.profile_of.ensures in
-    (not_put (profile a.flags a.custom) a.instruction_word w c.if-answer-gt4294967295.true a.out.now).0
+    (not_put (profile a.flags a.custom) a.instruction_word w (omega arith) a.out.now).0
 
 pub returns-then-answer-gt4294967295-clause-out_after : goal.returns-then-answer-gt4294967295-clause-out_after
 returns-then-answer-gt4294967295-clause-out_after c =
     let a = c.args in
     let w = word a.flags a.custom a.instruction_word c.write-answer.ensures c.profile_of.ensures in
-    (not_put (profile a.flags a.custom) a.instruction_word w c.if-answer-gt4294967295.true a.out.now).1
+    (not_put (profile a.flags a.custom) a.instruction_word w (omega arith) a.out.now).1
 
 pub put_word-requires : goal.put_word-requires
 put_word-requires c =
     let a = c.args in
     let w = word a.flags a.custom a.instruction_word c.write-answer.ensures c.profile_of.ensures in
-    kind_low (profile a.flags a.custom) a.instruction_word w c.if-answer-gt4294967295.false
+    kind_low (profile a.flags a.custom) a.instruction_word w (omega arith)
 
 pub returns-clause-value : goal.returns-clause-value
 returns-clause-value c =
     let a = c.args in
     let w = word a.flags a.custom a.instruction_word c.write-answer.ensures c.profile_of.ensures in
-    c.put_word.ensures.value ∙ (put (profile a.flags a.custom) a.instruction_word w c.if-answer-gt4294967295.false a.out.now).0
+    c.put_word.ensures.value ∙ (put (profile a.flags a.custom) a.instruction_word w (omega arith) a.out.now).0
 
 pub returns-clause-out_after : goal.returns-clause-out_after
 returns-clause-out_after c =
     let a = c.args in
     let w = word a.flags a.custom a.instruction_word c.write-answer.ensures c.profile_of.ensures in
-    c.put_word.ensures.out_after ∙ (put (profile a.flags a.custom) a.instruction_word w c.if-answer-gt4294967295.false a.out.now).1
+    c.put_word.ensures.out_after ∙ (put (profile a.flags a.custom) a.instruction_word w (omega arith) a.out.now).1
