@@ -4,8 +4,8 @@
 ghost use Rattle.std.specs.Prelude.{◌≡◌};
 ghost use Rattle.abi.specs.Abi.{profile, length_or};
 
-use octets::Emitted;
 use profiles::Profile;
+use refusals::Refusal;
 
 // The profile of the two words that it crosses as.
 pub fn profile_of(flags: u64, custom: u64) -> Profile
@@ -15,11 +15,11 @@ pub fn profile_of(flags: u64, custom: u64) -> Profile
 }
 
 // How many bytes were put at the front of a buffer, or the refusal.
-pub fn length_of(emitted: Emitted) -> u64
+pub fn length_of(emitted: Result<usize, Refusal>) -> u64
     ensures { result ≡ length_or emitted }
 {
     match emitted {
-        Emitted::Len(len) => len as u64,
-        Emitted::Refused(n) => refusals::refusal(n),
+        Ok(len) => len as u64,
+        Err(n) => refusals::refusal(n),
     }
 }

@@ -5,6 +5,8 @@ ghost use Rattle.std.specs.Prelude.{◌≡◌, ◌+◌, ◌^◌, ◌<◌, leb};
 ghost use Rattle.csr_addresses.specs.Address.{at_if, idx_def};
 ghost use Rattle.csr_addresses.specs.Masks.{masks_of};
 
+use refusals::Refusal;
+
 // A RISC-V Control and Status Register (CSR).
 #[derive(Clone, Copy)]
 pub enum Csr {
@@ -388,13 +390,6 @@ pub mod address {
     pub const CUSTOM63: usize = 0x7FF;
 }
 
-// A register's address, or the refusal's number.
-#[derive(Clone, Copy)]
-pub enum Idx {
-    At(usize),
-    Refused(u8),
-}
-
 // The four masks of `Csr`, for their proved values.
 #[derive(Clone, Copy)]
 pub struct Masks {
@@ -441,116 +436,116 @@ impl Csr {
 
     // Return the index of the CSR (i.e. its address in the CSR address space), or refusal 7 for a payload that `decode_csr`
     // gives under no profile. The Rust answers another register's address there, or one that no register has, or overflows.
-    pub fn idx(self) -> Idx
+    pub fn idx(self) -> Result<usize, Refusal>
         ensures { result ≡ idx_def self }
     {
         match self {
             // Machine mode CSRs
-            Csr::Mhartid => Idx::At(address::MHARTID),
-            Csr::Mstatus => Idx::At(address::MSTATUS),
-            Csr::Misa => Idx::At(address::MISA),
-            Csr::Mie => Idx::At(address::MIE),
-            Csr::Mtvec => Idx::At(address::MTVEC),
-            Csr::Mscratch => Idx::At(address::MSCRATCH),
-            Csr::Mip => Idx::At(address::MIP),
-            Csr::Mvendorid => Idx::At(address::MVENDORID),
-            Csr::Marchid => Idx::At(address::MARCHID),
-            Csr::Mimpid => Idx::At(address::MIMPID),
+            Csr::Mhartid => Ok(address::MHARTID),
+            Csr::Mstatus => Ok(address::MSTATUS),
+            Csr::Misa => Ok(address::MISA),
+            Csr::Mie => Ok(address::MIE),
+            Csr::Mtvec => Ok(address::MTVEC),
+            Csr::Mscratch => Ok(address::MSCRATCH),
+            Csr::Mip => Ok(address::MIP),
+            Csr::Mvendorid => Ok(address::MVENDORID),
+            Csr::Marchid => Ok(address::MARCHID),
+            Csr::Mimpid => Ok(address::MIMPID),
             Csr::Pmpcfg(id) => if id % 2 == 0 {
                 numbered(id, 14, address::PMPCFG0)
             } else {
-                Idx::Refused(refusals::CSR) // Invalid on rv64
+                Err(Refusal::Csr) // Invalid on rv64
             },
             Csr::Pmpaddr(id) => numbered(id, 63, address::PMPADDR0),
-            Csr::Mcycle => Idx::At(address::MCYCLE),
-            Csr::Minstret => Idx::At(address::MINSTRET),
-            Csr::Cycle => Idx::At(address::CYCLE),
-            Csr::Time => Idx::At(address::TIME),
-            Csr::Instret => Idx::At(address::INSTRET),
+            Csr::Mcycle => Ok(address::MCYCLE),
+            Csr::Minstret => Ok(address::MINSTRET),
+            Csr::Cycle => Ok(address::CYCLE),
+            Csr::Time => Ok(address::TIME),
+            Csr::Instret => Ok(address::INSTRET),
             Csr::Mhpmcounter(id) => numbered(id, 28, address::MHPMCOUNTER3),
-            Csr::Mcountinhibit => Idx::At(address::MCOUNTINHIBIT),
+            Csr::Mcountinhibit => Ok(address::MCOUNTINHIBIT),
             Csr::Mhpmevent(id) => numbered(id, 28, address::MHPMEVENT3),
-            Csr::Mcounteren => Idx::At(address::MCOUNTEREN),
-            Csr::Menvcfg => Idx::At(address::MENVCFG),
-            Csr::Mseccfg => Idx::At(address::MSECCFG),
-            Csr::Mconfigptr => Idx::At(address::MCONFIGPTR),
-            Csr::Medeleg => Idx::At(address::MEDELEG),
-            Csr::Mideleg => Idx::At(address::MIDELEG),
-            Csr::Mtinst => Idx::At(address::MTINST),
-            Csr::Mtval2 => Idx::At(address::MTVAL2),
-            Csr::Tselect => Idx::At(address::TSELECT),
-            Csr::Tdata1 => Idx::At(address::TDATA1),
-            Csr::Tdata2 => Idx::At(address::TDATA2),
-            Csr::Tdata3 => Idx::At(address::TDATA3),
-            Csr::Mcontext => Idx::At(address::MCONTEXT),
-            Csr::Dcsr => Idx::At(address::DCSR),
-            Csr::Dpc => Idx::At(address::DPC),
-            Csr::Dscratch0 => Idx::At(address::DSCRATCH0),
-            Csr::Dscratch1 => Idx::At(address::DSCRATCH1),
-            Csr::Mepc => Idx::At(address::MEPC),
-            Csr::Mcause => Idx::At(address::MCAUSE),
-            Csr::Mtval => Idx::At(address::MTVAL),
+            Csr::Mcounteren => Ok(address::MCOUNTEREN),
+            Csr::Menvcfg => Ok(address::MENVCFG),
+            Csr::Mseccfg => Ok(address::MSECCFG),
+            Csr::Mconfigptr => Ok(address::MCONFIGPTR),
+            Csr::Medeleg => Ok(address::MEDELEG),
+            Csr::Mideleg => Ok(address::MIDELEG),
+            Csr::Mtinst => Ok(address::MTINST),
+            Csr::Mtval2 => Ok(address::MTVAL2),
+            Csr::Tselect => Ok(address::TSELECT),
+            Csr::Tdata1 => Ok(address::TDATA1),
+            Csr::Tdata2 => Ok(address::TDATA2),
+            Csr::Tdata3 => Ok(address::TDATA3),
+            Csr::Mcontext => Ok(address::MCONTEXT),
+            Csr::Dcsr => Ok(address::DCSR),
+            Csr::Dpc => Ok(address::DPC),
+            Csr::Dscratch0 => Ok(address::DSCRATCH0),
+            Csr::Dscratch1 => Ok(address::DSCRATCH1),
+            Csr::Mepc => Ok(address::MEPC),
+            Csr::Mcause => Ok(address::MCAUSE),
+            Csr::Mtval => Ok(address::MTVAL),
 
             // Supervisor mode CSRs
-            Csr::Sstatus => Idx::At(address::SSTATUS),
-            Csr::Sie => Idx::At(address::SIE),
-            Csr::Stvec => Idx::At(address::STVEC),
-            Csr::Scounteren => Idx::At(address::SCOUNTEREN),
-            Csr::Senvcfg => Idx::At(address::SENVCFG),
-            Csr::Sscratch => Idx::At(address::SSCRATCH),
-            Csr::Sepc => Idx::At(address::SEPC),
-            Csr::Scause => Idx::At(address::SCAUSE),
-            Csr::Stval => Idx::At(address::STVAL),
-            Csr::Sip => Idx::At(address::SIP),
-            Csr::Satp => Idx::At(address::SATP),
-            Csr::Scontext => Idx::At(address::SCONTEXT),
-            Csr::Stimecmp => Idx::At(address::STIMECMP),
+            Csr::Sstatus => Ok(address::SSTATUS),
+            Csr::Sie => Ok(address::SIE),
+            Csr::Stvec => Ok(address::STVEC),
+            Csr::Scounteren => Ok(address::SCOUNTEREN),
+            Csr::Senvcfg => Ok(address::SENVCFG),
+            Csr::Sscratch => Ok(address::SSCRATCH),
+            Csr::Sepc => Ok(address::SEPC),
+            Csr::Scause => Ok(address::SCAUSE),
+            Csr::Stval => Ok(address::STVAL),
+            Csr::Sip => Ok(address::SIP),
+            Csr::Satp => Ok(address::SATP),
+            Csr::Scontext => Ok(address::SCONTEXT),
+            Csr::Stimecmp => Ok(address::STIMECMP),
 
             // Hypervisor and Virtual Supervisor CSRs
-            Csr::Hstatus => Idx::At(address::HSTATUS),
-            Csr::Hedeleg => Idx::At(address::HEDELEG),
-            Csr::Hideleg => Idx::At(address::HIDELEG),
-            Csr::Hvip => Idx::At(address::HVIP),
-            Csr::Hip => Idx::At(address::HIP),
-            Csr::Hie => Idx::At(address::HIE),
-            Csr::Hgeip => Idx::At(address::HGEIP),
-            Csr::Hgeie => Idx::At(address::HGEIE),
-            Csr::Henvcfg => Idx::At(address::HENVCFG),
-            Csr::Hcounteren => Idx::At(address::HCOUNTEREN),
-            Csr::Htimedelta => Idx::At(address::HTIMEDELTA),
-            Csr::Htval => Idx::At(address::HTVAL),
-            Csr::Htinst => Idx::At(address::HTINST),
-            Csr::Hgatp => Idx::At(address::HGATP),
-            Csr::Vsstatus => Idx::At(address::VSSTATUS),
-            Csr::Vsie => Idx::At(address::VSIE),
-            Csr::Vstvec => Idx::At(address::VSTVEC),
-            Csr::Vsscratch => Idx::At(address::VSSCRATCH),
-            Csr::Vsepc => Idx::At(address::VSEPC),
-            Csr::Vscause => Idx::At(address::VSCAUSE),
-            Csr::Vstval => Idx::At(address::VSTVAL),
-            Csr::Vsip => Idx::At(address::VSIP),
-            Csr::Vsatp => Idx::At(address::VSATP),
+            Csr::Hstatus => Ok(address::HSTATUS),
+            Csr::Hedeleg => Ok(address::HEDELEG),
+            Csr::Hideleg => Ok(address::HIDELEG),
+            Csr::Hvip => Ok(address::HVIP),
+            Csr::Hip => Ok(address::HIP),
+            Csr::Hie => Ok(address::HIE),
+            Csr::Hgeip => Ok(address::HGEIP),
+            Csr::Hgeie => Ok(address::HGEIE),
+            Csr::Henvcfg => Ok(address::HENVCFG),
+            Csr::Hcounteren => Ok(address::HCOUNTEREN),
+            Csr::Htimedelta => Ok(address::HTIMEDELTA),
+            Csr::Htval => Ok(address::HTVAL),
+            Csr::Htinst => Ok(address::HTINST),
+            Csr::Hgatp => Ok(address::HGATP),
+            Csr::Vsstatus => Ok(address::VSSTATUS),
+            Csr::Vsie => Ok(address::VSIE),
+            Csr::Vstvec => Ok(address::VSTVEC),
+            Csr::Vsscratch => Ok(address::VSSCRATCH),
+            Csr::Vsepc => Ok(address::VSEPC),
+            Csr::Vscause => Ok(address::VSCAUSE),
+            Csr::Vstval => Ok(address::VSTVAL),
+            Csr::Vsip => Ok(address::VSIP),
+            Csr::Vsatp => Ok(address::VSATP),
 
             // Vector extension CSRs
-            Csr::Vstart => Idx::At(address::VSTART),
-            Csr::Vxsat => Idx::At(address::VXSAT),
-            Csr::Vxrm => Idx::At(address::VXRM),
-            Csr::Vcsr => Idx::At(address::VCSR),
-            Csr::Vl => Idx::At(address::VL),
-            Csr::Vtype => Idx::At(address::VTYPE),
-            Csr::Vlenb => Idx::At(address::VLENB),
+            Csr::Vstart => Ok(address::VSTART),
+            Csr::Vxsat => Ok(address::VXSAT),
+            Csr::Vxrm => Ok(address::VXRM),
+            Csr::Vcsr => Ok(address::VCSR),
+            Csr::Vl => Ok(address::VL),
+            Csr::Vtype => Ok(address::VTYPE),
+            Csr::Vlenb => Ok(address::VLENB),
 
             // Crypto extension CSRs
-            Csr::Seed => Idx::At(address::SEED),
+            Csr::Seed => Ok(address::SEED),
 
             // Custom CSRs
             Csr::Custom(addr) => {
                 if addr < address::CUSTOM0 {
-                    Idx::Refused(refusals::CSR)
+                    Err(Refusal::Csr)
                 } else if addr <= address::CUSTOM63 {
-                    Idx::At(addr)
+                    Ok(addr)
                 } else {
-                    Idx::Refused(refusals::CSR)
+                    Err(Refusal::Csr)
                 }
             }
         }
@@ -558,13 +553,13 @@ impl Csr {
 }
 
 // The address of a register whose payload counts from `first` up, to `last` at most.
-fn numbered(id: usize, last: usize, first: usize) -> Idx
+fn numbered(id: usize, last: usize, first: usize) -> Result<usize, Refusal>
     requires { first + last < 2 ^ 12 }
     ensures { result ≡ at_if (leb id last) (first + id) }
 {
     if id <= last {
-        Idx::At(first + id)
+        Ok(first + id)
     } else {
-        Idx::Refused(refusals::CSR)
+        Err(Refusal::Csr)
     }
 }

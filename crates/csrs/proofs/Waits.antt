@@ -1,15 +1,15 @@
 -- Which gate a register waits for, by its variant: each arm of `gate_of` has registers of one line of the table, or some that have no row.
 -- Assumes nothing.
 use Rattle.utils.proofs.Prelude.{◌≡◌, refl, sym, ap, ◌∙◌, subst, Bool, true, false, ◌&&◌, ◌||◌, not, List, [], ◌∷◌, map, ℕ, zero, suc, ◌+◌, ◌-◌, ◌≤◌, arith, leb, T}
+use Rattle.std.proofs.Common.{Option, Some, None, Ok}
 use Rattle.utils.proofs.Prelude.{leb-true}
 use denote.Enum.Declared.{tag_of}
 use mir.Val.{has_key}
 use types.Run.{OneOf, miss}
 use Rattle.utils.proofs.Tests.{both}
 use Rattle.csr_addresses.specs.declared.Csr.{Csr, TheVariants.Custom}
-use Rattle.csr_addresses.specs.declared.Idx.TheVariants.{At}
 use Rattle.utils.specs.Lists.{down_from, join}
-use Rattle.csr_addresses.specs.Find.{Spot, is, nothing, find}
+use Rattle.csr_addresses.specs.Find.{find}
 use Rattle.csr_addresses.specs.Address.{idx_def, registers}
 use Rattle.csr_addresses.specs.contracts.Csr.{the_type}
 use Rattle.utils.proofs.Members.{Mem, left, right, mapped, within, all}
@@ -24,7 +24,7 @@ use Rattle.csrs.proofs.Laws.{there, there_is, no_row}
 unfoldable pub if_among : List ℕ → (Csr → Bool) → Csr → Bool
 if_among ks f c = not (has_key ks (tag_of the_type c)) || f c
 
-tagged : (ks : List ℕ) (f : Csr → Bool) → T (all (if_among ks f) registers) → (c : Csr) {a : ℕ} → idx_def c ≡ At a → OneOf ks (tag_of the_type c) → T (f c)
+tagged : (ks : List ℕ) (f : Csr → Bool) → T (all (if_among ks f) registers) → (c : Csr) {a : ℕ} → idx_def c ≡ Ok a → OneOf ks (tag_of the_type c) → T (f c)
 unfolding if_among
 tagged ks f t c {a} e o = step (has_key ks (tag_of the_type c)) refl (every (if_among ks f) t c a e)
   where
@@ -51,7 +51,7 @@ lined (suc i) (l ∷ ls) m = right (rows_of l) (lined i ls m)
 unfoldable pub in_group : ℕ → Csr → Bool
 in_group i c = keeps (λ b. there (find idx_def b (join (families_at i groups)))) (idx_def c)
 
-pub waits : (i : ℕ) (ks : List ℕ) → T (all (if_among ks (in_group i)) registers) → (c : Csr) {a : ℕ} → idx_def c ≡ At a → OneOf ks (tag_of the_type c) → gate_at i groups ≡ gate_def (idx_def c)
+pub waits : (i : ℕ) (ks : List ℕ) → T (all (if_among ks (in_group i)) registers) → (c : Csr) {a : ℕ} → idx_def c ≡ Ok a → OneOf ks (tag_of the_type c) → gate_at i groups ≡ gate_def (idx_def c)
 unfolding in_group spot_def
 waits i ks t c {a} e o =
     let cs = join (families_at i groups) in
@@ -60,19 +60,19 @@ waits i ks t c {a} e o =
     sym (ap gate_def e ∙ ap gate_in (hit row_idx a rows_distinct (left (map custom_row (down_from 64)) (lined i groups m)) e))
 
 -- ---- a register without a row waits for a bit that no mask has
-pub shut : (ks : List ℕ) → T (all (if_among ks no_row) registers) → (c : Csr) {a : ℕ} → idx_def c ≡ At a → OneOf ks (tag_of the_type c) → MaskBit 64 ≡ gate_def (idx_def c)
+pub shut : (ks : List ℕ) → T (all (if_among ks no_row) registers) → (c : Csr) {a : ℕ} → idx_def c ≡ Ok a → OneOf ks (tag_of the_type c) → MaskBit 64 ≡ gate_def (idx_def c)
 unfolding no_row
 shut ks t c {a} e o = step (spot_def a) (kept (λ b. not (there (spot_def b))) a (idx_def c) e (tagged ks no_row t c e o)) ∙ sym (ap gate_def e)
   where
-    step : (s : Spot Row) → T (not (there s)) → MaskBit 64 ≡ gate_in s
-    step (is r) u = absurd u
-    step nothing u = refl
+    step : (s : Option Row) → T (not (there s)) → MaskBit 64 ≡ gate_in s
+    step (Some r) u = absurd u
+    step None u = refl
 
 -- ---- a custom register waits for its bit
-pub custom_low : (n : ℕ) {a : ℕ} → idx_def (Custom n) ≡ At a → 0x7C0 ≤ n
+pub custom_low : (n : ℕ) {a : ℕ} → idx_def (Custom n) ≡ Ok a → 0x7C0 ≤ n
 custom_low n {a} e = leb-true 0x7C0 n (both (leb 0x7C0 n) (leb n 0x7FF) (at_is (leb 0x7C0 n && leb n 0x7FF) n a e).0).0
 
-pub custom_waits : (n : ℕ) {a : ℕ} → idx_def (Custom n) ≡ At a → MaskBit (n - 0x7C0) ≡ gate_def (idx_def (Custom n))
+pub custom_waits : (n : ℕ) {a : ℕ} → idx_def (Custom n) ≡ Ok a → MaskBit (n - 0x7C0) ≡ gate_def (idx_def (Custom n))
 unfolding spot_def
 custom_waits n {a} e =
     let d = both (leb 0x7C0 n) (leb n 0x7FF) (at_is (leb 0x7C0 n && leb n 0x7FF) n a e).0 in

@@ -1,6 +1,9 @@
 -- Which CSRs a profile makes available: document 01's table of gates, with the addresses of registers' `idx_def`. Where a
 -- register is does not depend on the profile.
 use Rattle.std.specs.Prelude.{◌≡◌, Bool, true, false, List, [], ◌∷◌, ◌++◌, map, ℕ, ◌+◌, ◌*◌, ◌^◌, ◌<◌}
+use Rattle.std.specs.Prelude.{Option, Some, None, Result, Ok, Err}
+use Rattle.refusals.specs.Answer.{Answer}
+use Rattle.csrs.specs.declared.Absent.{Absent}
 use Rattle.csr_addresses.specs.declared.Csr.{Csr}
 use Rattle.csr_addresses.specs.declared.Csr.TheVariants.{Mhartid, Mstatus, Misa, Mie, Mtvec, Mscratch, Mip, Mvendorid, Marchid, Mimpid, Pmpcfg, Pmpaddr}
 use Rattle.csr_addresses.specs.declared.Csr.TheVariants.{Mcycle, Minstret, Cycle, Time, Instret, Mhpmcounter, Mcountinhibit, Mhpmevent, Mcounteren}
@@ -10,18 +13,12 @@ use Rattle.csr_addresses.specs.declared.Csr.TheVariants.{Senvcfg, Sscratch, Sepc
 use Rattle.csr_addresses.specs.declared.Csr.TheVariants.{Hideleg, Hvip, Hip, Hie, Hgeip, Hgeie, Henvcfg, Hcounteren, Htimedelta, Htval, Htinst, Hgatp}
 use Rattle.csr_addresses.specs.declared.Csr.TheVariants.{Vsstatus, Vsie, Vstvec, Vsscratch, Vsepc, Vscause, Vstval, Vsip, Vsatp, Vstart, Vxsat, Vxrm}
 use Rattle.csr_addresses.specs.declared.Csr.TheVariants.{Vcsr, Vl, Vtype, Vlenb, Seed, Custom}
-use Rattle.csr_addresses.specs.declared.Idx.{Idx}
-use Rattle.csr_addresses.specs.declared.Idx.TheVariants.{At, Refused}
 use Rattle.utils.specs.Lists.{down_from, join}
-use Rattle.csr_addresses.specs.Find.{Spot, is, nothing, find}
+use Rattle.csr_addresses.specs.Find.{find}
 use Rattle.csr_addresses.specs.Address.{idx_def}
 use Rattle.profiles.specs.declared.Profile.{Profile}
 use Rattle.csrs.specs.declared.Gate.{Gate}
 use Rattle.csrs.specs.declared.Gate.TheVariants.{Always, Zicntr, Zihpm, Tee, Smode, Hmode, Sstc, Vector, Crypto, MaskBit}
-use Rattle.csrs.specs.declared.Gated.{Gated}
-use Rattle.csrs.specs.declared.Gated.TheVariants.{Holds, Empty}
-use Rattle.csrs.specs.declared.CsrLookup.{CsrLookup}
-use Rattle.csrs.specs.declared.CsrLookup.TheVariants.{Found, GateOff, NoSuch}
 use Rattle.profiles.specs.Profile.{bit_at}
 
 abbrev pub allows_def : Profile → Gate → Bool
@@ -85,32 +82,32 @@ abbrev pub rows : List Row
 rows = join (map rows_of groups) ++ map custom_row (down_from 64)
 
 -- the row of the register that has this address
-abbrev pub row_idx : Row → Idx
+abbrev pub row_idx : Row → Answer ℕ
 row_idx r = idx_def r.csr
 
-unfoldable pub spot_def : ℕ → Spot Row
+unfoldable pub spot_def : ℕ → Option Row
 spot_def a = find row_idx a rows
 
 -- the answer there, under a profile. Document 02, no. 4: "the CSR, or "gate off" for an address that some profile makes available, or "no such" for
 -- one that none does"
-abbrev pub gated_def : Bool → Csr → CsrLookup
-gated_def true c = Found c
-gated_def false c = GateOff
+abbrev pub gated_def : Bool → Csr → Result Csr Absent
+gated_def true c = Ok c
+gated_def false c = (Err GateOff)
 
-abbrev pub answer : Profile → Spot Row → CsrLookup
-answer p (is r) = gated_def (allows_def p r.gate) r.csr
-answer p nothing = NoSuch
+abbrev pub answer : Profile → Option Row → Result Csr Absent
+answer p (Some r) = gated_def (allows_def p r.gate) r.csr
+answer p None = (Err NoSuch)
 
-unfoldable pub decode_csr_def : Profile → ℕ → CsrLookup
+unfoldable pub decode_csr_def : Profile → ℕ → Result Csr Absent
 decode_csr_def p a = answer p (spot_def a)
 
 -- what is made of the register that is found, or x where none is: all that is asked where no reason is
-abbrev pub if_found : {X : Type 0} → (Csr → X) → X → CsrLookup → X
-if_found f x (Found c) = f c
-if_found f x GateOff = x
-if_found f x NoSuch = x
+abbrev pub if_found : {X : Type 0} → (Csr → X) → X → Result Csr Absent → X
+if_found f x (Ok c) = f c
+if_found f x (Err GateOff) = x
+if_found f x (Err NoSuch) = x
 
-abbrev pub is_found : CsrLookup → Bool
+abbrev pub is_found : Result Csr Absent → Bool
 is_found k = if_found (λ c. true) false k
 
 unfoldable pub available : Profile → ℕ → Bool
@@ -122,18 +119,18 @@ SomeProfile a = (p : Profile) × ((p.custom < 2 ^ 64) × (available p a ≡ true
 
 -- ---- the parts
 -- the gate of the row at a register's address; where there is no row, a bit that no mask has
-abbrev pub gate_in : Spot Row → Gate
-gate_in (is r) = r.gate
-gate_in nothing = MaskBit 64
+abbrev pub gate_in : Option Row → Gate
+gate_in (Some r) = r.gate
+gate_in None = MaskBit 64
 
-abbrev pub gate_def : Idx → Gate
-gate_def (At a) = gate_in (spot_def a)
-gate_def (Refused n) = MaskBit 64
+abbrev pub gate_def : Answer ℕ → Gate
+gate_def (Ok a) = gate_in (spot_def a)
+gate_def (Err n) = MaskBit 64
 
 -- what the look-up answers for an address
-abbrev pub gated_of : Spot Row → Gated
-gated_of (is r) = Holds r.gate r.csr
-gated_of nothing = Empty
+abbrev pub gated_of : Option Row → Option Row
+gated_of (Some r) = HOLDS r.gate r.csr
+gated_of None = None
 
 -- the registers that have an address and no row
 abbrev pub nevers : List Csr

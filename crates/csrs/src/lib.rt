@@ -79,16 +79,9 @@ fn gate_of(register: Csr) -> Gate
     }
 }
 
-// What a CSR address has, whatever the profile: a register, behind its gate.
-#[derive(Clone, Copy)]
-enum Gated {
-    Holds(Gate, Csr),
-    Empty,
-}
-
 // The look-up by address, which may be any number. It takes no profile, so that flags are only read where a gate asks; and
 // `gate_of` has no other caller, so that the compiler merges it into the arms.
-fn gated_at(csr: usize) -> Gated
+fn gated_at(csr: usize) -> Option<Row>
     ensures { result ≡ gated_of (spot_def csr) }
 {
     let found = match csr {
@@ -107,7 +100,7 @@ fn gated_at(csr: usize) -> Gated
             if id % 2 == 0 {
                 Csr::Pmpcfg(id)
             } else {
-                return Gated::Empty; // Invalid on rv64
+                return None; // Invalid on rv64
             }
         }
         address::PMPADDR0..=address::PMPADDR63 => Csr::Pmpaddr(csr - address::PMPADDR0),
@@ -132,14 +125,14 @@ fn gated_at(csr: usize) -> Gated
         address::MTVAL2 => Csr::Mtval2,
         address::TSELECT => Csr::Tselect,
         // The Rust reads these eight addresses, and answers None under `if true`.
-        address::TDATA1 => return Gated::Empty,
-        address::TDATA2 => return Gated::Empty,
-        address::TDATA3 => return Gated::Empty,
-        address::MCONTEXT => return Gated::Empty,
-        address::DCSR => return Gated::Empty,
-        address::DPC => return Gated::Empty,
-        address::DSCRATCH0 => return Gated::Empty,
-        address::DSCRATCH1 => return Gated::Empty,
+        address::TDATA1 => return None,
+        address::TDATA2 => return None,
+        address::TDATA3 => return None,
+        address::MCONTEXT => return None,
+        address::DCSR => return None,
+        address::DPC => return None,
+        address::DSCRATCH0 => return None,
+        address::DSCRATCH1 => return None,
         // Custom CSRs: mask bit k makes address 0x7C0 + k available
         address::CUSTOM0..=address::CUSTOM63 => Csr::Custom(csr),
         address::MCAUSE => Csr::Mcause,
@@ -193,32 +186,24 @@ fn gated_at(csr: usize) -> Gated
         address::VLENB => Csr::Vlenb,
         // Crypto extension CSRs
         address::SEED => Csr::Seed,
-        _ => return Gated::Empty,
+        _ => return None,
     };
     Gated::Holds(gate_of(found), found)
 }
 
-// What a CSR address has under a profile: its register, one that only other profiles make available, or one that none does.
-#[derive(Clone, Copy)]
-pub enum CsrLookup {
-    Found(Csr),
-    GateOff,
-    NoSuch,
-}
-
 // The register at an address, which may be any number, if the profile makes it available, or why there is none.
-pub fn decode_csr(ctx: Profile, csr: usize) -> CsrLookup
+pub fn decode_csr(ctx: Profile, csr: usize) -> Result<Csr, Absent>
     ensures { result ≡ decode_csr_def ctx csr }
 {
     match gated_at(csr) {
         Gated::Holds(gate, found) => {
             if allows(ctx, gate) {
-                CsrLookup::Found(found)
+                Ok(found)
             } else {
-                CsrLookup::GateOff
+                Err(Absent::GateOff)
             }
         }
-        Gated::Empty => CsrLookup::NoSuch,
+        None => Err(Absent::NoSuch),
     }
 }
 
@@ -245,6 +230,6 @@ pub fn is_available(ctx: Profile, csr: usize) -> bool
 {
     match gated_at(csr) {
         Gated::Holds(gate, _) => allows(ctx, gate),
-        Gated::Empty => false,
+        None => false,
     }
 }

@@ -1,8 +1,9 @@
 -- What a table tells of the words that it accepts, and that two tables accept no word in common. Assumes nothing.
 use Rattle.utils.proofs.Prelude.{◌≡◌, refl, subst, ◌⊎◌, inl, inr, Bool, true, ◌&&◌, List, [], ◌∷◌, ◌++◌, ℕ, ◌^◌, ◌<◌, eqb, ltb, leb}
+use Rattle.std.proofs.Common.{Ok, Err}
+use Rattle.refusals.specs.Answer.{Answer}
 use Rattle.utils.proofs.Prelude.{lt_of_lt_of_le, pow_mono, eqb-true, leb-true}
 use Rattle.forms.specs.Layout.{Layout, const, take, given, avoid, Operand, imm, rd, rs1, rs2, funct, csr, short, all, every, bits, width, size, matches, spares, read, readable}
-use Rattle.forms.specs.Answer.{Answer, value, refusal}
 use Rattle.forms.specs.Sound.{first, spread, of_word, clash, sound}
 use Rattle.forms.specs.Meaning.{Meaning, Every, read_as, read_of}
 use Rattle.utils.proofs.Tests.{both, on}
@@ -12,13 +13,13 @@ use Rattle.forms.proofs.Sound.{first_all, found_good, word_has, word_once}
 use Rattle.forms.proofs.Facts.{Fact, Known, tells, tells_has, field_is, shuts, shut}
 
 -- what each form says of what it reads, holds of an instruction that is accepted
-pub by_layouts : {I : Type 0} (S : Meaning I) (w : ℕ) (P : I → Type 0) (T : List Layout) → Every (λ L. readable w L ≡ true → P (S.make (read L w))) T → (i : I) → read_of T S w ≡ value i → P i
+pub by_layouts : {I : Type 0} (S : Meaning I) (w : ℕ) (P : I → Type 0) (T : List Layout) → Every (λ L. readable w L ≡ true → P (S.make (read L w))) T → (i : I) → read_of T S w ≡ Ok i → P i
 by_layouts {I} S w P T h i = go T (S.reading_refusal w) h
   where
-    go : (T : List Layout) (n : ℕ) → Every (λ L. readable w L ≡ true → P (S.make (read L w))) T → read_as S w (first (readable w) T n) ≡ value i → P i
+    go : (T : List Layout) (n : ℕ) → Every (λ L. readable w L ≡ true → P (S.make (read L w))) T → read_as S w (first (readable w) T n) ≡ Ok i → P i
     go [] n h = λ q. no_value n i q
     go (L ∷ T) n h =
-        on (λ (k : Answer Layout). read_as S w k ≡ value i → P i) (readable w L)
+        on (λ (k : Answer Layout). read_as S w k ≡ Ok i → P i) (readable w L)
         (λ e q. subst P ((let z : S.make (read L w) ≡ i = cc in z)) (h.0 e)) (λ _. go T n h.1)
 
 -- a computed test of the forms
@@ -31,7 +32,7 @@ abbrev pub crossed : List Layout → List Layout → Bool
 crossed T U = all (λ L. all (λ M. clash (of_word M) (of_word L)) U) T
 
 pub not_both : {I J : Type 0} (T U : List Layout) (R : Meaning I) (S : Meaning J) (w : ℕ) (i : I) (j : J) → crossed T U ≡ true
-    → read_of T R w ≡ value i → read_of U S w ≡ value j → ⊥
+    → read_of T R w ≡ Ok i → read_of U S w ≡ Ok j → ⊥
 not_both T U R S w i j e p q =
     by_layouts R w (λ _. ⊥) T (by_test _ (λ L f r. by_layouts S w (λ _. ⊥) U (by_test _ (λ M c. word_once w L M r c) U f) j q) T e) i p
 
@@ -64,13 +65,13 @@ abbrev pub Words : List Layout → ℕ → Type 0
 Words [] w = ⊥
 Words (L ∷ T) w = (Fixed L w × (spares L (read L w) ≡ true)) ⊎ Words T w
 
-pub accepted : {I : Type 0} (T : List Layout) (S : Meaning I) (w : ℕ) (i : I) → read_of T S w ≡ value i → Words T w
+pub accepted : {I : Type 0} (T : List Layout) (S : Meaning I) (w : ℕ) (i : I) → read_of T S w ≡ Ok i → Words T w
 accepted {I} T S w i = go T (S.reading_refusal w)
   where
-    go : (T : List Layout) (n : ℕ) → read_as S w (first (readable w) T n) ≡ value i → Words T w
+    go : (T : List Layout) (n : ℕ) → read_as S w (first (readable w) T n) ≡ Ok i → Words T w
     go [] n = λ q. no_value n i q
     go (L ∷ T) n =
-        on (λ (k : Answer Layout). read_as S w k ≡ value i → Words (L ∷ T) w) (readable w L)
+        on (λ (k : Answer Layout). read_as S w k ≡ Ok i → Words (L ∷ T) w) (readable w L)
         (λ e _. let t = both (matches L w) (spares L (read L w)) e in inl (fields_of L w t.0, t.1)) (λ _ q. inr (go T n q))
 
 -- forms that do not read a word are passed over
@@ -103,15 +104,15 @@ pub record Made {I : Type 0} (S : Meaning I) (room : Operand → ℕ) (i : I) : 
   pub same : S.make env ≡ i
   pub low : (x : Operand) → env x < 2 ^ room x
 
-pub made_of : {I : Type 0} (T : List Layout) (S : Meaning I) (room : Operand → ℕ) → sound T ≡ true → all (roomy room) T ≡ true → (w : ℕ) (i : I) → read_of T S w ≡ value i → Made S room i
+pub made_of : {I : Type 0} (T : List Layout) (S : Meaning I) (room : Operand → ℕ) → sound T ≡ true → all (roomy room) T ≡ true → (w : ℕ) (i : I) → read_of T S w ≡ Ok i → Made S room i
 made_of {I} T S room ok r w i = go (first (readable w) T (S.reading_refusal w)) refl
   where
-    go : (k : Answer Layout) → first (readable w) T (S.reading_refusal w) ≡ k → read_as S w k ≡ value i → Made S room i
-    go (value L) e q = record {
+    go : (k : Answer Layout) → first (readable w) T (S.reading_refusal w) ≡ k → read_as S w k ≡ Ok i → Made S room i
+    go (Ok L) e q = record {
       env = read L w;
       same = (cc);
       low = λ x.
           lt_of_lt_of_le (read_lt L (found_good T ok (readable w) (S.reading_refusal w) L e) w x)
           (pow_mono (leb-true (size L x) (room x) (every_at (λ y. leb (size L y) (room y)) (first_all (roomy room) (readable w) T (S.reading_refusal w) L r e) x)));
     }
-    go (refusal n) e q = no_value n i q
+    go (Err n) e q = no_value n i q

@@ -1,39 +1,38 @@
 -- What a code of an immediate tells, and operands of one bit: what a `FaithfulBelow` is made of. Assumes nothing.
 use Rattle.utils.proofs.Prelude.{◌≡◌, refl, sym, subst, Bool, true, false, ℕ, ◌<◌, arith, eqb, ltb, ℤ, mag, eqb-true, eqb-false, ltb-true}
+use Rattle.std.proofs.Common.{Option, Some, None, Ok}
 use Rattle.utils.specs.Signed.{signed, twos, code_def}
 use Rattle.utils.proofs.Signed.{by_test, signed_twos}
-use Rattle.utils.specs.declared.Code.{Code, TheVariants.Is, TheVariants.Out}
-use Rattle.forms.specs.declared.Wrote.TheVariants.{Word}
 use Rattle.forms.specs.Layout.{Layout, imm, holds}
 use Rattle.forms.specs.Meaning.{within, put, bit_of}
 use Rattle.utils.proofs.Tests.{on}
 use Rattle.forms.proofs.AnyReader.{no_word}
 
-not_out : {X : Type 0} (n : ℕ) → Out ≡ Is n → X
+not_out : {X : Type 0} (n : ℕ) → None ≡ Some n → X
 not_out n q = let z : ◌≡◌ {A = ℕ} 0 1 = cc in absurd (omega arith)
 
 -- the layout holds a code that is within it
-pub within_is : (L : Layout) (k : Code) (n : ℕ) → within L k ≡ Is n → (k ≡ Is n) × (holds L imm n ≡ true)
-within_is L (Is m) n =
-    on (λ (k : Code). k ≡ Is n → (Is m ≡ Is n) × (holds L imm n ≡ true)) (holds L imm m)
+pub within_is : (L : Layout) (k : (Option ℕ)) (n : ℕ) → within L k ≡ Some n → (k ≡ Some n) × (holds L imm n ≡ true)
+within_is L (Some m) n =
+    on (λ (k : (Option ℕ)). k ≡ Some n → (Some m ≡ Some n) × (holds L imm n ≡ true)) (holds L imm m)
     (λ e q. let same : m ≡ n = cc in (q, subst (λ (x : ℕ). holds L imm x ≡ true) same e)) (λ _ q. not_out n q)
-within_is L Out n = λ q. not_out n q
+within_is L None n = λ q. not_out n q
 
 -- a word that was put has an immediate with a code
-pub put_is : (k : Code) (w x : ℕ) → put k w ≡ Word x → ((n : ℕ) × (k ≡ Is n)) × (w ≡ x)
-put_is (Is n) w x q = ((n, refl), cc)
-put_is Out w x q = no_word 10 q
+pub put_is : (k : (Option ℕ)) (w x : ℕ) → put k w ≡ Ok x → ((n : ℕ) × (k ≡ Some n)) × (w ≡ x)
+put_is (Some n) w x q = ((n, refl), cc)
+put_is None w x q = no_word 10 q
 
 -- ---- a code of an integer
-code_mag : (H : ℕ) (z : ℤ) (n : ℕ) → code_def H z ≡ Is n → (mag z < H) × (n ≡ twos H z)
+code_mag : (H : ℕ) (z : ℤ) (n : ℕ) → code_def H z ≡ Some n → (mag z < H) × (n ≡ twos H z)
 code_mag H z n =
-    on (λ (k : Code). k ≡ Is n → (mag z < H) × (n ≡ twos H z)) (ltb (mag z) H)
+    on (λ (k : (Option ℕ)). k ≡ Some n → (mag z < H) × (n ≡ twos H z)) (ltb (mag z) H)
     (λ e q. let same : twos H z ≡ n = cc in (ltb-true _ _ e, sym same)) (λ _ q. not_out n q)
 
-pub code_back : (H : ℕ) (z : ℤ) (n : ℕ) → code_def H z ≡ Is n → signed H (twos H z) ≡ z
+pub code_back : (H : ℕ) (z : ℤ) (n : ℕ) → code_def H z ≡ Some n → signed H (twos H z) ≡ z
 code_back H z n k = signed_twos H z (code_mag H z n k).0
 
-pub code_twos : (H : ℕ) (z : ℤ) (n : ℕ) → code_def H z ≡ Is n → n ≡ twos H z
+pub code_twos : (H : ℕ) (z : ℤ) (n : ℕ) → code_def H z ≡ Some n → n ≡ twos H z
 code_twos H z n k = (code_mag H z n k).1
 
 -- ---- operands of one bit

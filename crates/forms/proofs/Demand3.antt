@@ -1,12 +1,11 @@
 -- The demand on reading and writing, once for any table: what is read is written again, what is written is read again, and writing is refused
 -- exactly where no word would be read so. A table gives one computed test and a `Faithful`, nothing of a form. Assumes nothing.
 use Rattle.utils.proofs.Prelude.{◌≡◌, refl, sym, ap, ◌∙◌, subst, Bool, true, ◌&&◌, cond, false≢true, List, [], ◌∷◌, ℕ, ◌^◌, ◌<◌, eqb, ltb, leb}
+use Rattle.std.proofs.Common.{Some, None, Ok, Err}
+use Rattle.refusals.specs.Answer.{Answer}
 use Rattle.utils.proofs.Prelude.{lt_of_lt_of_le, get_or, eqb-true, ltb-true, leb-true}
-use Rattle.utils.specs.declared.Code.TheVariants.{Is, Out}
-use Rattle.forms.specs.declared.Wrote.TheVariants.{Word}
 use Rattle.forms.specs.Layout.{Layout, Operand, imm, rd, rs1, rs2, funct, csr, short, all, good, every}
 use Rattle.forms.specs.Layout.{Piece, piece, from, lit, pieces, place, gather, width, size, read, build, readable, chosen, holds}
-use Rattle.forms.specs.Answer.{Answer, value, refusal}
 use Rattle.forms.specs.Sound.{first, distinct, sound}
 use Rattle.forms.specs.Meaning.{Meaning, FaithfulBelow, Agrees, Every, Faithful, listed, room_of, within, put, read_as, read_of, write_as, write_of, lits, below, fitted, limited}
 use Rattle.forms.specs.Demand3.{OnlyWord, RefusedExactly}
@@ -54,10 +53,10 @@ module _ {I : Type 0} (S : Meaning I) (limit : Operand → ℕ) (s : FaithfulBel
   by_limits T ok e = record { layouts = all_agree T (both (all good T) (distinct T) ok).0 e; code_ops = s.code_ops; make_ops = s.make_ops }
 
 -- ---- what a faithful Meaning gives
-every_layout : (P : Layout → Type 0) (p : Layout → Bool) (T : List Layout) (n : ℕ) (L : Layout) → Every P T → first p T n ≡ value L → P L
+every_layout : (P : Layout → Type 0) (p : Layout → Bool) (T : List Layout) (n : ℕ) (L : Layout) → Every P T → first p T n ≡ Ok L → P L
 every_layout P p [] n L h = λ e. no_value n L e
 every_layout P p (M ∷ T) n L h =
-    on (λ (k : Answer Layout). k ≡ value L → P L) (p M) (λ _ q. subst P (same_value M L q) h.0) (λ _ q. every_layout P p T n L h.1 q)
+    on (λ (k : Answer Layout). k ≡ Ok L → P L) (p M) (λ _ q. subst P (same_value M L q) h.0) (λ _ q. every_layout P p T n L h.1 q)
 
 same_at : (f g : Operand → ℕ) → listed f ≡ listed g → (x : Operand) → f x ≡ g x
 same_at f g e =
@@ -65,33 +64,33 @@ same_at f g e =
     elim [ imm ↦ at 0 | rd ↦ at 1 | rs1 ↦ at 2 | rs2 ↦ at 3 | funct ↦ at 4 | csr ↦ at 5 | short ↦ at 6 ]
 
 module _ {I : Type 0} (T : List Layout) (S : Meaning I) (ok : sound T ≡ true) (s : Faithful T S) where
-  agrees_of : (p : Layout → Bool) (n : ℕ) (L : Layout) → first p T n ≡ value L → (w : ℕ) → Agrees S L w
+  agrees_of : (p : Layout → Bool) (n : ℕ) (L : Layout) → first p T n ≡ Ok L → (w : ℕ) → Agrees S L w
   agrees_of p n L e = every_layout (λ M. (w : ℕ) → Agrees S M w) p T n L s.layouts e
 
   -- what is read of a word is written as the word
-  again : (w : ℕ) (L : Layout) → first (readable w) T (S.reading_refusal w) ≡ value L → w < room_of (S.is_short (S.make (read L w))) → write_of T S (S.make (read L w)) ≡ Word w
+  again : (w : ℕ) (L : Layout) → first (readable w) T (S.reading_refusal w) ≡ Ok L → w < room_of (S.is_short (S.make (read L w))) → write_of T S (S.make (read L w)) ≡ Ok w
   again w L e h =
       let i = S.make (read L w) in
       let b = agrees_of (readable w) (S.reading_refusal w) L e w in
       let same : S.ops i ≡ read L w = λ j x. same_at (S.ops i) (read L w) b.ops x j in
       let q = read_back T ok w (S.reading_refusal w) (S.writing_refusal i) L e (subst (λ (k : ℕ). w < k) b.room h) in
-      let c : within L (S.code i) ≡ Is (read L w imm) = ap (within L) b.code ∙ ap (λ (t : Bool). cond t (Is (read L w imm)) Out) q.1.0 in
-      ap (write_as S i) (ap (λ (env : Operand → ℕ). first (chosen env) T (S.writing_refusal i)) same ∙ q.0) ∙ (λ j. put (c j) (build L (same j))) ∙ ap Word q.1.1
+      let c : within L (S.code i) ≡ Some (read L w imm) = ap (within L) b.code ∙ ap (λ (t : Bool). cond t (Some (read L w imm)) None) q.1.0 in
+      ap (write_as S i) (ap (λ (env : Operand → ℕ). first (chosen env) T (S.writing_refusal i)) same ∙ q.0) ∙ (λ j. put (c j) (build L (same j))) ∙ ap Ok q.1.1
 
   -- a word that is read as an instruction is what the instruction is written as
-  pub read_then_write : (w : ℕ) (i : I) → read_of T S w ≡ value i → w < room_of (S.is_short i) → write_of T S i ≡ Word w
+  pub read_then_write : (w : ℕ) (i : I) → read_of T S w ≡ Ok i → w < room_of (S.is_short i) → write_of T S i ≡ Ok w
   read_then_write w i = go (first (readable w) T (S.reading_refusal w)) refl
     where
-      go : (k : Answer Layout) → first (readable w) T (S.reading_refusal w) ≡ k → read_as S w k ≡ value i → w < room_of (S.is_short i) → write_of T S i ≡ Word w
-      go (value L) e q = let same : S.make (read L w) ≡ i = cc in subst (λ (x : I). w < room_of (S.is_short x) → write_of T S x ≡ Word w) same (again w L e)
-      go (refusal n) e q = no_value n i q
+      go : (k : Answer Layout) → first (readable w) T (S.reading_refusal w) ≡ k → read_as S w k ≡ Ok i → w < room_of (S.is_short i) → write_of T S i ≡ Ok w
+      go (Ok L) e q = let same : S.make (read L w) ≡ i = cc in subst (λ (x : I). w < room_of (S.is_short x) → write_of T S x ≡ Ok w) same (again w L e)
+      go (Err n) e q = no_value n i q
 
   -- what is read can be written, whatever bits the word has above its form's: the word without them is read the same
-  pub writable : (w : ℕ) (i : I) → read_of T S w ≡ value i → (x : ℕ) × (write_of T S i ≡ Word x)
+  pub writable : (w : ℕ) (i : I) → read_of T S w ≡ Ok i → (x : ℕ) × (write_of T S i ≡ Ok x)
   writable w i = go (first (readable w) T (S.reading_refusal w)) refl
     where
-      go : (k : Answer Layout) → first (readable w) T (S.reading_refusal w) ≡ k → read_as S w k ≡ value i → (x : ℕ) × (write_of T S i ≡ Word x)
-      go (value L) e q =
+      go : (k : Answer Layout) → first (readable w) T (S.reading_refusal w) ≡ k → read_as S w k ≡ Ok i → (x : ℕ) × (write_of T S i ≡ Ok x)
+      go (Ok L) e q =
           let g = found_good T ok (readable w) (S.reading_refusal w) L e in
           let v = build L (read L w) in
           let c = readable_chosen L g w (first_true (readable w) T (S.reading_refusal w) L e) in
@@ -99,29 +98,29 @@ module _ {I : Type 0} (T : List Layout) (S : Meaning I) (ok : sound T ≡ true) 
           let made : S.make (read L w) ≡ i = cc in
           let is : S.make (read L v) ≡ i = ap S.make (chosen_back L g (read L w) c (read_holds L g w imm)) ∙ made in
           let room : 2 ^ width L ≡ room_of (S.is_short i) = sym (agrees_of (readable w) (S.reading_refusal w) L e v).room ∙ ap (λ (j : I). room_of (S.is_short j)) is in
-          (v, read_then_write v i (ap (read_as S v) f ∙ ap value is) (subst (λ (n : ℕ). v < n) room (build_lt L g (read L w))))
-      go (refusal n) e q = no_value n i q
+          (v, read_then_write v i (ap (read_as S v) f ∙ ap Ok is) (subst (λ (n : ℕ). v < n) room (build_lt L g (read L w))))
+      go (Err n) e q = no_value n i q
 
   -- the word that an instruction is written as is in its room, and is read as the instruction
-  pub write_then_read : (i : I) (w : ℕ) → write_of T S i ≡ Word w → (w < room_of (S.is_short i)) × (read_of T S w ≡ value i)
+  pub write_then_read : (i : I) (w : ℕ) → write_of T S i ≡ Ok w → (w < room_of (S.is_short i)) × (read_of T S w ≡ Ok i)
   write_then_read i w = go (first (chosen (S.ops i)) T (S.writing_refusal i)) refl
     where
-      go : (k : Answer Layout) → first (chosen (S.ops i)) T (S.writing_refusal i) ≡ k → write_as S i k ≡ Word w → (w < room_of (S.is_short i)) × (read_of T S w ≡ value i)
-      go (value L) e q =
+      go : (k : Answer Layout) → first (chosen (S.ops i)) T (S.writing_refusal i) ≡ k → write_as S i k ≡ Ok w → (w < room_of (S.is_short i)) × (read_of T S w ≡ Ok i)
+      go (Ok L) e q =
           let p = put_is (within L (S.code i)) (build L (S.ops i)) w q in
           let c = within_is L (S.code i) p.0.0 p.0.1 in
           let t = write_back T ok (S.ops i) (S.writing_refusal i) (S.reading_refusal (build L (S.ops i))) L e (subst (λ (m : ℕ). holds L imm m ≡ true) (s.code_ops i p.0.0 c.0) c.1) in
           let same : S.make (read L (build L (S.ops i))) ≡ i = ap S.make t.1.0 ∙ s.make_ops i p.0.0 c.0 in
           let room : 2 ^ width L ≡ room_of (S.is_short i) =
           sym (agrees_of (chosen (S.ops i)) (S.writing_refusal i) L e (build L (S.ops i))).room ∙ ap (λ (x : I). room_of (S.is_short x)) same in
-          subst (λ (x : ℕ). (x < room_of (S.is_short i)) × (read_of T S x ≡ value i)) p.1
-          (subst (λ (k : ℕ). build L (S.ops i) < k) room t.1.1, ap (read_as S (build L (S.ops i))) t.0 ∙ ap value same)
-      go (refusal n) e q = no_word n q
+          subst (λ (x : ℕ). (x < room_of (S.is_short i)) × (read_of T S x ≡ Ok i)) p.1
+          (subst (λ (k : ℕ). build L (S.ops i) < k) room t.1.1, ap (read_as S (build L (S.ops i))) t.0 ∙ ap Ok same)
+      go (Err n) e q = no_word n q
 
   -- writing an instruction is refused exactly when no word of its room is read as the instruction
-  pub refused_exactly : (i : I) → RefusedExactly (λ x. read_of T S x ≡ value i) (room_of (S.is_short i)) (write_of T S i)
-  refused_exactly i = refused_by (λ x. read_of T S x ≡ value i) (room_of (S.is_short i)) (write_of T S i) (λ x h e. read_then_write x i e h) (write_then_read i)
+  pub refused_exactly : (i : I) → RefusedExactly (λ x. read_of T S x ≡ Ok i) (room_of (S.is_short i)) (write_of T S i)
+  refused_exactly i = refused_by (λ x. read_of T S x ≡ Ok i) (room_of (S.is_short i)) (write_of T S i) (λ x h e. read_then_write x i e h) (write_then_read i)
 
   -- and no two words of its room are
-  pub only_word : (i : I) → OnlyWord (λ x. read_of T S x ≡ value i) (room_of (S.is_short i))
-  only_word i = only_by (λ x. read_of T S x ≡ value i) (room_of (S.is_short i)) (write_of T S i) (λ x h e. read_then_write x i e h) (write_then_read i)
+  pub only_word : (i : I) → OnlyWord (λ x. read_of T S x ≡ Ok i) (room_of (S.is_short i))
+  only_word i = only_by (λ x. read_of T S x ≡ Ok i) (room_of (S.is_short i)) (write_of T S i) (λ x h e. read_then_write x i e h) (write_then_read i)

@@ -1,12 +1,12 @@
 -- What is known of a word, field by field, decides which form of a table reads it: computed tests over any table, so that code which has tested some
 -- fields needs to name no form. Assumes nothing.
 use Rattle.utils.proofs.Prelude.{◌≡◌, refl, sym, ap, ◌∙◌, Bool, true, false, ◌&&◌, ◌||◌, not, cond, false≢true, List, [], ◌∷◌, ℕ, zero, suc, ◌+◌, ◌*◌, ◌/◌, ◌%◌, ◌^◌, ◌<◌, ◌≤◌, arith, eqb, ltb}
+use Rattle.std.proofs.Common.{Ok}
 use Rattle.utils.proofs.Prelude.{mod-eq_of_lt, eq-eqb, ne_eqb, eqb-true, ltb-true}
 use native.Mathlib.Nat.{mod-one}
 use lib.Pow.{mod-pow-add, shr-shr}
 use Rattle.utils.proofs.Tests.{both, join, either, on}
 use Rattle.forms.specs.Layout.{Layout, const, take, given, avoid, Operand, all, bits, width, matches, spares, Piece, piece, from, lit, pieces, gather, read, readable, constants, good}
-use Rattle.forms.specs.Answer.{value}
 use Rattle.forms.specs.Sound.{first, any, Bit, bit, spread, of_word, clash}
 use Rattle.forms.specs.Meaning.{Meaning, read_as, read_of}
 use Rattle.forms.proofs.Tests.{all_by, not_any}
@@ -242,7 +242,7 @@ module _ (p s o : Layout → Bool) (no : (L : Layout) → s L ≡ true → p L �
       go (s L) refl (p L) refl b.1 a.1 (settled T n a.0 b.0)
     where
       go : (x : Bool) → s L ≡ x → (y : Bool) → p L ≡ y → (x || o L) ≡ true → good L ≡ true → first p T n ≡ first (λ M. not (s M)) T n
-          → cond y (value L) (first p T n) ≡ cond (not x) (value L) (first (λ M. not (s M)) T n)
+          → cond y (Ok L) (first p T n) ≡ cond (not x) (Ok L) (first (λ M. not (s M)) T n)
       go true a true b e g rest = absurd (no L a b)
       go true a false b e g rest = rest
       go false a true b e g rest = refl

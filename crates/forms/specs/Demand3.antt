@@ -3,19 +3,19 @@
 -- reading, as that value under that profile. Otherwise the word written is so read, and is the only such word."
 -- "So read" needs no word of its own here: proofs/Demand3 states it as `write_then_read`.
 use Rattle.std.specs.Prelude.{ℕ, ◌<◌, ◌≡◌, ◌↔◌}
-use Rattle.forms.specs.declared.Wrote.{Wrote}
-use Rattle.forms.specs.declared.Wrote.TheVariants.{Refused}
+use Rattle.std.specs.Prelude.{Err}
+use Rattle.refusals.specs.Answer.{Answer}
 
 -- the answer of writing is a refusal, whatever its number
-abbrev pub Refuses : Wrote → Type 0
-Refuses r = (n : ℕ) × (r ≡ Refused n)
+abbrev pub Refuses : Answer ℕ → Type 0
+Refuses r = (n : ℕ) × (r ≡ Err n)
 
 -- no word below `room` is read as the value; `reads x` says that the word x is
 abbrev pub NoWord : (ℕ → Type 0) → ℕ → Type 0
 NoWord reads room = (x : ℕ) → x < room → ¬ reads x
 
 -- refused exactly when there is no such word; r is the answer of writing the value
-abbrev pub RefusedExactly : (ℕ → Type 0) → ℕ → Wrote → Type 0
+abbrev pub RefusedExactly : (ℕ → Type 0) → ℕ → Answer ℕ → Type 0
 RefusedExactly reads room r = Refuses r ↔ NoWord reads room
 
 -- there is only one such word, if any

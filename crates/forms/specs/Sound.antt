@@ -1,13 +1,14 @@
 -- A list of layouts: a word is read, and operands are written, by the first layout that fits. The computed test `sound` says that each layout
 -- is good, and that no word and no operands fit two of them, so that the order of the layouts does not matter.
 use Rattle.std.specs.Prelude.{ℕ, zero, suc, ◌+◌, Bool, true, false, ◌&&◌, ◌||◌, not, cond, List, [], ◌∷◌, eqb}
-use Rattle.forms.specs.Answer.{Answer, value, refusal}
+use Rattle.std.specs.Prelude.{Ok, Err}
+use Rattle.refusals.specs.Answer.{Answer}
 use Rattle.forms.specs.Layout.{Layout, const, take, given, avoid, others, all, bits, width, good, Piece, piece, from, lit, pieces}
 
 -- the first that passes, or n
 abbrev pub first : (Layout → Bool) → List Layout → ℕ → Answer Layout
-first p [] n = refusal n
-first p (L ∷ T) n = cond (p L) (value L) (first p T n)
+first p [] n = Err n
+first p (L ∷ T) n = cond (p L) (Ok L) (first p T n)
 
 abbrev pub any : {A : Type 0} → (A → Bool) → List A → Bool
 any p [] = false

@@ -2,9 +2,3 @@
 // code is the answer that writing gives.
 #![tactic(auto)]
 
-// What writing an instruction answers: the word, or the number of the refusal.
-#[derive(Clone, Copy)]
-pub enum Wrote {
-    Word(u64),
-    Refused(u8),
-}

@@ -1,10 +1,12 @@
 -- Document 02, no. 5, of the exported batch, whose tables are eighty bytes each. Assumes nothing.
 use Rattle.utils.proofs.Prelude.{◌≡◌, sym, ap, ◌∙◌, subst, ◌&&◌, cond, List, ℕ, suc, ◌+◌, ◌*◌, ◌<◌, arith, eqb, length, get_or}
+use Rattle.std.proofs.Common.{Err}
+use Rattle.refusals.specs.Answer.{Answer}
+use Rattle.refusals.specs.declared.Refusal.TheVariants as refusal
 use Rattle.profiles.specs.Profile.{profile_of}
 use Rattle.octets.specs.Bytes.{of_le, fetch}
 use Rattle.harts.specs.Table.{table_of, hart_profile}
 use Rattle.harts.proofs.Tables.{entry_at}
-use Rattle.batch.specs.declared.Batched.{Batched, TheVariants.Refused}
 use Rattle.batch.specs.Batch.{batched_def, leaves, batched_out}
 use Rattle.batch.specs.Apart.{OneLength, Twice, SameSlots}
 use Rattle.batch.proofs.Apart as batch
@@ -15,7 +17,7 @@ use Rattle.matnosoru_batch.proofs.Answers.{handed_on}
 under_table : (table words harts readings out : List ℕ) → length table ≡ 80 → OneLength words harts readings
     → output_of table words harts readings out ≡ batched_out (table_of table) words harts readings out
 under_table table words harts readings out l one =
-    ap (λ (k : Batched). leaves k (table_of table) words harts readings out) (handed_on table words harts readings out one.0 one.1 l)
+    ap (λ (k : (Answer ℕ)). leaves k (table_of table) words harts readings out) (handed_on table words harts readings out one.0 one.1 l)
 
 module _ (hart : ℕ) (harts table table' words words' readings readings' out out' : List ℕ) where
   -- the request: `after` and `after'` are the outputs as the contract of `matnosoru_batch` has them
@@ -41,4 +43,4 @@ pub lengths_alone : (table table' words words' harts harts' readings readings' o
     → length harts ≡ length harts' → length readings ≡ length readings' → length out ≡ length out'
     → slots_or (answer_of table words harts readings out) ≡ slots_or (answer_of table' words' harts' readings' out')
 lengths_alone table table' words words' harts harts' readings readings' out out' t w h r o =
-    λ j. slots_or (cond (eqb (w j) (h j) && eqb (w j) (r j)) (cond (eqb (t j) 80) (batched_def (w j) (h j) (r j) (o j)) (Refused 14)) (Refused 17))
+    λ j. slots_or (cond (eqb (w j) (h j) && eqb (w j) (r j)) (cond (eqb (t j) 80) (batched_def (w j) (h j) (r j) (o j)) (Err refusal.OutputShort)) (Err refusal.ListLengths))

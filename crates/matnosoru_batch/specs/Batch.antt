@@ -1,21 +1,22 @@
 -- The batch as it crosses the C ABI: a table is eighty bytes, and the answer is one number.
 use Rattle.std.specs.Prelude.{ℕ, ◌*◌, ◌%◌, ◌^◌, ◌&&◌, cond, List, eqb, length}
+use Rattle.std.specs.Prelude.{Ok, Err}
+use Rattle.refusals.specs.Answer.{Answer}
+use Rattle.refusals.specs.declared.Refusal.TheVariants as refusal
 use Rattle.harts.specs.Table.{table_of}
-use Rattle.batch.specs.declared.Batched.{Batched}
-use Rattle.batch.specs.declared.Batched.TheVariants.{Slots, Refused}
 use Rattle.batch.specs.Batch.{batched_def, leaves}
 
 -- the answer: a table of another length gives 14, after 17
-abbrev pub answer_of : List ℕ → List ℕ → List ℕ → List ℕ → List ℕ → Batched
+abbrev pub answer_of : List ℕ → List ℕ → List ℕ → List ℕ → List ℕ → Answer ℕ
 answer_of table words harts readings out =
     cond (eqb (length words) (length harts) && eqb (length words) (length readings))
-    (cond (eqb (length table) 80) (batched_def (length words) (length harts) (length readings) (length out)) (Refused 14))
-    (Refused 17)
+    (cond (eqb (length table) 80) (batched_def (length words) (length harts) (length readings) (length out)) (Err refusal.OutputShort))
+    (Err refusal.ListLengths)
 
 -- how many slots, in 32 bits; or a refusal's number times 2 ^ 32
-abbrev pub slots_or : Batched → ℕ
-slots_or (Slots n) = n % 2 ^ 32
-slots_or (Refused n) = n * 2 ^ 32
+abbrev pub slots_or : Answer ℕ → ℕ
+slots_or (Ok n) = n % 2 ^ 32
+slots_or (Err n) = n * 2 ^ 32
 
 -- and the output then
 abbrev pub output_of : List ℕ → List ℕ → List ℕ → List ℕ → List ℕ → List ℕ

@@ -4,7 +4,8 @@
 ghost use Rattle.std.specs.Prelude.{◌≡◌};
 ghost use Rattle.matnosoru_batch.specs.Batch.{answer_of, slots_or, output_of};
 
-use batch::Batched;
+use refusals::Refusal;
+
 
 // Writes a slot of twelve bytes for each entry to the front of a buffer: how many slots, in 32 bits, or the refusal: 17 where the lists are
 // not of one length, 14 where the table is not eighty bytes, 14 where the buffer is shorter than the slots.
@@ -20,16 +21,16 @@ pub extern "C" fn matnosoru_batch(
     ensures out_after { out.new ≡ output_of table.now words.now harts.now readings.now out.old }
 {
     if words.len() != harts.len() {
-        return refusals::refusal(refusals::LIST_LENGTHS);
+        return refusals::refusal(Refusal::ListLengths);
     }
     if words.len() != readings.len() {
-        return refusals::refusal(refusals::LIST_LENGTHS);
+        return refusals::refusal(Refusal::ListLengths);
     }
     if table.len() != 80 {
-        return refusals::refusal(refusals::OUTPUT_SHORT);
+        return refusals::refusal(Refusal::OutputShort);
     }
     match batch::batch(harts::table_of(table), words, harts, readings, out) {
-        Batched::Slots(n) => n as u64 % 0x1_0000_0000,
-        Batched::Refused(no) => refusals::refusal(no),
+        Ok(n) => n as u64 % 0x1_0000_0000,
+        Err(no) => refusals::refusal(no),
     }
 }

@@ -1,20 +1,19 @@
 -- The answers for an address and for two tables, and a value's sign copied upwards by a width in bytes.
 use Rattle.std.specs.Prelude.{◌≡◌, ℕ, ◌+◌, ◌*◌, ◌^◌, Bool, true, false, ◌&&◌, List, length, ◌==◌}
-use Rattle.utils.specs.declared.WidthFrom.{WidthFrom}
-use Rattle.utils.specs.declared.WidthFrom.TheVariants.{Is as IsWidth, Invalid}
+use Rattle.std.specs.Prelude.{Result, Ok, Err}
+use Rattle.csrs.specs.declared.Absent.{Absent}
+use Rattle.utils.specs.declared.UnknownWidth.{UnknownWidth}
 use Rattle.utils.specs.Width.{extended, half_of}
-use Rattle.csrs.specs.declared.CsrLookup.{CsrLookup}
-use Rattle.csrs.specs.declared.CsrLookup.TheVariants.{Found, GateOff, NoSuch}
 use Rattle.differences.specs.declared.Difference.{Difference}
 use Rattle.differences.specs.declared.Difference.TheVariants.{At, Nowhere}
 use Rattle.harts.specs.Table.{table_of}
 use Rattle.differences.specs.Difference.{FirstDifference}
 
 -- ---- an address
-abbrev pub lookup_code : CsrLookup → ℕ
-lookup_code (Found c) = 1
-lookup_code GateOff = 2
-lookup_code NoSuch = 3
+abbrev pub lookup_code : Result Csr Absent → ℕ
+lookup_code (Ok c) = 1
+lookup_code (Err GateOff) = 2
+lookup_code (Err NoSuch) = 3
 
 -- ---- tables
 -- the first difference as hart * 4096 + address, 32768 for none
@@ -32,6 +31,6 @@ TablesDiffer s t r = Compared (length s == 80 && length t == 80) s t r
 
 -- ---- arithmetic
 -- a width in bytes; another number leaves the value
-abbrev pub extended_by : WidthFrom → ℕ → ℕ
-extended_by (IsWidth w) x = extended (half_of w) x
-extended_by Invalid x = x
+abbrev pub extended_by : Result Width UnknownWidth → ℕ → ℕ
+extended_by (Ok w) x = extended (half_of w) x
+extended_by (Err e) x = x

@@ -9,9 +9,9 @@ ghost use Rattle.csrs.specs.Count.{count_def};
 ghost use Rattle.abi.specs.Abi.{profile};
 ghost use Rattle.matnosoru_csrs.specs.Csrs.{lookup_code, TablesDiffer, extended_by};
 
-use csrs::CsrLookup;
 use differences::Difference;
-use utils::{Width, WidthFrom};
+use refusals::Refusal;
+use utils::Width;
 
 // The header's MATNOSORU_VERSION.
 const VERSION: u64 = 4;
@@ -42,9 +42,9 @@ pub extern "C" fn matnosoru_csr_lookup(flags: u64, custom: u64, address: u64) ->
     ensures { result ≡ lookup_code (decode_csr_def (profile flags custom) address) }
 {
     match csrs::decode_csr(abi::profile_of(flags, custom), address as usize) {
-        CsrLookup::Found(_) => 1,
-        CsrLookup::GateOff => 2,
-        CsrLookup::NoSuch => 3,
+        Ok(_) => 1,
+        Err(Absent::GateOff) => 2,
+        Err(Absent::NoSuch) => 3,
     }
 }
 
@@ -62,10 +62,10 @@ pub extern "C" fn matnosoru_tables_differ(a: &[u8], b: &[u8]) -> u64
     ensures { TablesDiffer a.now b.now result }
 {
     if a.len() != 80 {
-        return refusals::refusal(refusals::OUTPUT_SHORT);
+        return refusals::refusal(Refusal::OutputShort);
     }
     if b.len() != 80 {
-        return refusals::refusal(refusals::OUTPUT_SHORT);
+        return refusals::refusal(Refusal::OutputShort);
     }
     match differences::first_difference(harts::table_of(a), harts::table_of(b)) {
         Difference::At { hart, csr } => place_of(hart, csr),
@@ -89,8 +89,8 @@ pub extern "C" fn matnosoru_sign_extend(value: u64, bytes: u64) -> u64
         return value;
     }
     match Width::from(8 * bytes as usize) {
-        WidthFrom::Is(width) => utils::sign_extend(value as usize, width) as u64,
-        WidthFrom::Invalid => value,
+        Ok(width) => utils::sign_extend(value as usize, width) as u64,
+        Err(UnknownWidth(value)) => value,
     }
 }
 

@@ -1,25 +1,25 @@
 -- The answers of writing a line of a whole log's listing, and the buffer and the state's bytes after it.
 use Rattle.std.specs.Prelude.{ℕ, ◌*◌, ◌^◌, Bool, ◌&&◌, cond, List, ltb, leb}
+use Rattle.std.specs.Prelude.{Ok, Err}
+use Rattle.refusals.specs.Answer.{Answer}
 use Rattle.octets.specs.Bytes.{emitted, emitted_out}
-use Rattle.harts.specs.declared.ProfileAt.{ProfileAt}
-use Rattle.harts.specs.declared.ProfileAt.TheVariants.{Is, Refused}
 use Rattle.log_reader.specs.Read.{parse}
 use Rattle.log_lines.specs.Lines.{bad_line}
 use Rattle.log_steps.specs.Lines.{line_def, line_out, line_state}
 use Rattle.abi.specs.Abi.{length_or}
 
 -- ---- a record's line, where there is a profile to read it under
-abbrev pub next_line : ProfileAt → ℕ → List ℕ → ℕ → ℕ
-next_line (Is p) at log room = line_def p at (parse p log) room
-next_line (Refused n) at log room = n * 2 ^ 32
+abbrev pub next_line : Answer Profile → ℕ → List ℕ → ℕ → ℕ
+next_line (Ok p) at log room = line_def p at (parse p log) room
+next_line (Err n) at log room = n * 2 ^ 32
 
-abbrev pub next_line_out : ProfileAt → ℕ → List ℕ → List ℕ → List ℕ
-next_line_out (Is p) at log out = line_out p at (parse p log) out
-next_line_out (Refused n) at log out = out
+abbrev pub next_line_out : Answer Profile → ℕ → List ℕ → List ℕ → List ℕ
+next_line_out (Ok p) at log out = line_out p at (parse p log) out
+next_line_out (Err n) at log out = out
 
-abbrev pub next_line_state : ProfileAt → ℕ → List ℕ → ℕ → List ℕ → List ℕ
-next_line_state (Is p) at log room s = line_state p at (parse p log) room s
-next_line_state (Refused n) at log room s = s
+abbrev pub next_line_state : Answer Profile → ℕ → List ℕ → ℕ → List ℕ → List ℕ
+next_line_state (Ok p) at log room s = line_state p at (parse p log) room s
+next_line_state (Err n) at log room s = s
 
 -- ---- the last line of a log with a bad record: a refusal's number is 1 to 255
 abbrev pub is_number : ℕ → Bool

@@ -8,7 +8,8 @@ ghost use Rattle.log_lines.specs.Lines.{header, end_line};
 ghost use Rattle.abi.specs.Abi.{length_or};
 ghost use Rattle.matnosoru_listing.specs.Lines.{next_line, next_line_out, next_line_state, bad_def, bad_out};
 
-use harts::ProfileAt;
+use refusals::Refusal;
+
 
 // Writes the listing's first line to the front of a buffer: its length, or 14.
 #[unsafe(no_mangle)]
@@ -28,8 +29,8 @@ pub extern "C" fn matnosoru_next_line(state: &mut [u8], at: u64, log: &[u8], out
     ensures state_after { state.new ≡ next_line_state (current_at state.old) at log.now (length out.old) state.old }
 {
     match state_bytes::current_of(state) {
-        ProfileAt::Is(ctx) => log_steps::line_past(ctx, state, at, log, out),
-        ProfileAt::Refused(n) => refusals::refusal(n),
+        Ok(ctx) => log_steps::line_past(ctx, state, at, log, out),
+        Err(n) => refusals::refusal(n),
     }
 }
 
@@ -49,10 +50,10 @@ pub extern "C" fn matnosoru_bad_line(number: u64, at: u64, out: &mut [u8]) -> u6
     ensures out_after { out.new ≡ bad_out number at out.old }
 {
     if number == 0 {
-        return refusals::refusal(refusals::FIELD);
+        return refusals::refusal(Refusal::Field);
     }
     if 255 < number {
-        return refusals::refusal(refusals::FIELD);
+        return refusals::refusal(Refusal::Field);
     }
     abi::length_of(text::emit_line(log_lines::bad_line(number as u8, at), out))
 }

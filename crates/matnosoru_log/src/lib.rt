@@ -11,7 +11,6 @@ ghost use Rattle.log_steps.specs.Next.{record_length};
 ghost use Rattle.log_steps.specs.Lines.{line_def, line_out};
 ghost use Rattle.abi.specs.Abi.{profile, length_or};
 
-use log_reader::RecordRead;
 use log_records::Record;
 use profiles::Profile;
 
@@ -21,8 +20,8 @@ pub extern "C" fn matnosoru_read_record(flags: u64, custom: u64, log: &[u8]) -> 
     ensures { result ≡ record_length (parse (profile flags custom) log.now) }
 {
     match log_reader::read_record(abi::profile_of(flags, custom), log) {
-        RecordRead::Got { record: _, len } => len as u64,
-        RecordRead::Refused(n) => refusals::refusal(n),
+        Ok((_, len)) => len as u64,
+        Err(n) => refusals::refusal(n),
     }
 }
 

@@ -5,8 +5,8 @@ ghost use Rattle.std.specs.Prelude.{◌≡◌, cond, ◌*◌, ◌^◌, eqb, leng
 ghost use Rattle.state_bytes.specs.StateBytes.{started_out, current_at};
 ghost use Rattle.log_steps.specs.Next.{read_under, record_length, next_state};
 
-use harts::ProfileAt;
-use log_reader::RecordRead;
+use refusals::Refusal;
+
 
 // Makes the state with which a log begins: its length, or 14 where there are not as many bytes.
 #[unsafe(no_mangle)]
@@ -15,7 +15,7 @@ pub extern "C" fn matnosoru_start(state: &mut [u8]) -> u64
     ensures state_after { state.new ≡ started_out state.old }
 {
     if state.len() != 81 {
-        return refusals::refusal(refusals::OUTPUT_SHORT);
+        return refusals::refusal(Refusal::OutputShort);
     }
     state_bytes::start(state);
     81
@@ -29,13 +29,13 @@ pub extern "C" fn matnosoru_next(state: &mut [u8], log: &[u8]) -> u64
     ensures state_after { state.new ≡ next_state state.old (read_under (current_at state.old) log.now) }
 {
     match state_bytes::current_of(state) {
-        ProfileAt::Is(ctx) => match log_reader::read_record(ctx, log) {
-            RecordRead::Got { record, len } => {
+        Ok(ctx) => match log_reader::read_record(ctx, log) {
+            Ok((record, len)) => {
                 log_steps::move_past(state, record);
                 len as u64
             }
-            RecordRead::Refused(n) => refusals::refusal(n),
+            Err(n) => refusals::refusal(n),
         },
-        ProfileAt::Refused(n) => refusals::refusal(n),
+        Err(n) => refusals::refusal(n),
     }
 }

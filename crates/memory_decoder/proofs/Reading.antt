@@ -1,5 +1,8 @@
 -- What the code's tests say of reading by a table of loads or stores, once for both. Assumes nothing.
 use Rattle.utils.proofs.Prelude.{◌≡◌, refl, sym, ap, ◌∙◌, subst, Bool, true, ◌&&◌, cond, List, [], ◌∷◌, ℕ, ◌<◌, arith, leb}
+use Rattle.std.proofs.Common.{Ok, Err}
+use Rattle.refusals.specs.Answer.{Answer, number_in}
+use Rattle.refusals.specs.declared.Refusal.TheVariants as refusal
 use Rattle.utils.proofs.Prelude.{lt_of_lt_of_le, pow_mono, w64, SFits, to_z, le-leb, leb-true}
 use lib.IntN.{pos}
 use mir.ValLaws.{to_z_pos}
@@ -7,7 +10,6 @@ use Rattle.utils.specs.Signed.{signed}
 use Rattle.utils.proofs.Signed.{signed_low}
 use Rattle.utils.proofs.Tests.{both}
 use Rattle.forms.specs.Layout.{Layout, imm, all, pieces, size, read, good}
-use Rattle.forms.specs.Answer.{Answer, value, refusal, number_in}
 use Rattle.forms.specs.Sound.{first, spread, distinct, sound}
 use Rattle.forms.specs.Meaning.{Meaning, read_as, read_of}
 use Rattle.forms.proofs.Laws.{read_lt}
@@ -18,9 +20,7 @@ use Rattle.memory_decoder.specs.Forms.{loads, stores}
 use Rattle.memory_decoder.specs.Load as Load
 use Rattle.memory_decoder.specs.Store as Store
 use Rattle.memory_decoder.specs.declared.LoadInstr.{LoadInstr}
-use Rattle.memory_decoder.specs.declared.LoadRead.{LoadRead, TheVariants.Load as ALoad}
 use Rattle.memory_decoder.specs.declared.StoreInstr.{StoreInstr}
-use Rattle.memory_decoder.specs.declared.StoreRead.{StoreRead, TheVariants.Store as AStore}
 use Rattle.memory_decoder.proofs.Lengths.{if_long, if_short}
 
 -- ---- immediates
@@ -48,13 +48,13 @@ pub record Reading (I R : Type 0) : Type 1 where
   pub ok : sound forms ≡ true
   pub reading_refusal : (w : ℕ) → meaning.reading_refusal w ≡ unread opcode w
   pub number_is : (k : Answer I) → number (answer k) ≡ number_in k
-  pub form : (k : Answer I) (i : I) → answer k ≡ answer (value i) → k ≡ value i
+  pub form : (k : Answer I) (i : I) → answer k ≡ answer (Ok i) → k ≡ Ok i
 
-pub answered_load : (k : Answer LoadInstr) (i : LoadInstr) → Load.answered k ≡ ALoad i → k ≡ value i
-answered_load (value x) i q = cc
-answered_load (refusal n) i q = let z : ◌≡◌ {A = ℕ} 0 1 = cc in absurd (omega arith)
+pub answered_load : (k : Answer LoadInstr) (i : LoadInstr) → Load.answered k ≡ Ok i → k ≡ Ok i
+answered_load (Ok x) i q = cc
+answered_load (Err n) i q = let z : ◌≡◌ {A = ℕ} 0 1 = cc in absurd (omega arith)
 
-abbrev pub loading : Reading LoadInstr LoadRead
+abbrev pub loading : Reading LoadInstr (Answer LoadInstr)
 loading = record {
   answer = Load.answered;
   number = Load.number_of;
@@ -63,15 +63,15 @@ loading = record {
   opcode = 0x03;
   ok = refl;
   reading_refusal = λ w. refl;
-  number_is = elim [ value i ↦ refl | refusal n ↦ refl ];
+  number_is = elim [ Ok i ↦ refl | Err n ↦ refl ];
   form = answered_load;
 }
 
-pub answered_store : (k : Answer StoreInstr) (i : StoreInstr) → Store.answered k ≡ AStore i → k ≡ value i
-answered_store (value x) i q = cc
-answered_store (refusal n) i q = let z : ◌≡◌ {A = ℕ} 0 1 = cc in absurd (omega arith)
+pub answered_store : (k : Answer StoreInstr) (i : StoreInstr) → Store.answered k ≡ Ok i → k ≡ Ok i
+answered_store (Ok x) i q = cc
+answered_store (Err n) i q = let z : ◌≡◌ {A = ℕ} 0 1 = cc in absurd (omega arith)
 
-abbrev pub storing : Reading StoreInstr StoreRead
+abbrev pub storing : Reading StoreInstr (Answer StoreInstr)
 storing = record {
   answer = Store.answered;
   number = Store.number_of;
@@ -80,7 +80,7 @@ storing = record {
   opcode = 0x23;
   ok = refl;
   reading_refusal = λ w. refl;
-  number_is = elim [ value i ↦ refl | refusal n ↦ refl ];
+  number_is = elim [ Ok i ↦ refl | Err n ↦ refl ];
   form = answered_store;
 }
 
@@ -107,8 +107,8 @@ module _ {I R : Type 0} (F : Reading I R) (w : ℕ) (fs : List Fact) (h : Known 
       ap F.answer (sym (by_facts F.forms F.meaning fine (reasons F.opcode) 3 F.reading_refusal w fs h e))
 
   -- the same of a reader of one length of words, which answers 3 to the other; the facts tell the length
-  pub long_reads : settled F fs ≡ true → tells (of_facts fs) (spread 2 0 0b11 []) ≡ true → answer_by F fs w ≡ cond (is_long w) (answer_to F w) (F.answer (refusal 3))
-  long_reads e l = reads e ∙ sym (if_long w (answer_to F w) (F.answer (refusal 3)) (is_told w fs h 0 2 0b11 l))
+  pub long_reads : settled F fs ≡ true → tells (of_facts fs) (spread 2 0 0b11 []) ≡ true → answer_by F fs w ≡ cond (is_long w) (answer_to F w) (F.answer (Err refusal.NotTheForm))
+  long_reads e l = reads e ∙ sym (if_long w (answer_to F w) (F.answer (Err refusal.NotTheForm)) (is_told w fs h 0 2 0b11 l))
 
-  pub short_reads : settled F fs ≡ true → denies fs (spread 2 0 0b11 []) ≡ true → answer_by F fs w ≡ cond (is_long w) (F.answer (refusal 3)) (answer_to F w)
-  short_reads e l = reads e ∙ sym (if_short w (F.answer (refusal 3)) (answer_to F w) (is_denied w fs h 0 2 0b11 l))
+  pub short_reads : settled F fs ≡ true → denies fs (spread 2 0 0b11 []) ≡ true → answer_by F fs w ≡ cond (is_long w) (F.answer (Err refusal.NotTheForm)) (answer_to F w)
+  short_reads e l = reads e ∙ sym (if_short w (F.answer (Err refusal.NotTheForm)) (answer_to F w) (is_denied w fs h 0 2 0b11 l))

@@ -1,22 +1,22 @@
 -- What a word is as a store, by the table of stores: document 01's "Reading loads and stores".
 use Rattle.std.specs.Prelude.{ℕ, Bool, cond, eqb, ℤ}
+use Rattle.std.specs.Prelude.{Ok, Err}
+use Rattle.refusals.specs.Answer.{Answer}
+use Rattle.refusals.specs.declared.Refusal.TheVariants as refusal
 use Rattle.utils.specs.Signed.{signed, twos, code_def}
 use Rattle.utils.specs.declared.Width.{Width}
 use Rattle.profiles.specs.declared.Profile.{Profile}
 use Rattle.forms.specs.Layout.{Operand, imm, rd, rs1, rs2, funct, csr, short}
-use Rattle.forms.specs.Answer.{Answer, value, refusal}
 use Rattle.forms.specs.Meaning.{Meaning, read_of, bit_of}
 use Rattle.memory_decoder.specs.Access.{is_long, unread, unwritten}
 use Rattle.memory_decoder.specs.Forms.{stores}
 use Rattle.memory_decoder.specs.Funct3.{width_of, size_of}
 use Rattle.memory_decoder.specs.declared.StoreInstr.{StoreInstr}
-use Rattle.memory_decoder.specs.declared.StoreRead.{StoreRead}
-use Rattle.memory_decoder.specs.declared.StoreRead.TheVariants.{Store, Refused}
 
 -- document 01's number for each answer; 0 is no refusal
-abbrev pub number_of : StoreRead → ℕ
-number_of (Store i) = 0
-number_of (Refused n) = n
+abbrev pub number_of : Answer StoreInstr → ℕ
+number_of (Ok i) = 0
+number_of (Err n) = n
 
 abbrev pub mk : ℕ → ℕ → ℤ → Width → Bool → StoreInstr
 mk s b n len c = record { rs2 = record { 0 = s }; rs1 = record { 0 = b }; imm = n; len = len; is_compressed = c }
@@ -42,16 +42,16 @@ abbrev pub meaning : Meaning StoreInstr
 meaning = record { make = made; ops = operands_of; code = λ i. code_def 2048 i.imm; is_short = λ i. i.is_compressed; reading_refusal = unread 0x23; writing_refusal = writing_refusal }
 
 -- ---- the reading; it asks nothing of the profile
-abbrev pub answered : Answer StoreInstr → StoreRead
-answered (value i) = Store i
-answered (refusal n) = Refused n
+abbrev pub answered : Answer StoreInstr → Answer StoreInstr
+answered (Ok i) = Ok i
+answered (Err n) = Err n
 
-unfoldable pub store_def : Profile → ℕ → StoreRead
+unfoldable pub store_def : Profile → ℕ → Answer StoreInstr
 store_def p w = answered (read_of stores meaning w)
 
 -- a reading of words of one length: a word of the other length is not of the form
-abbrev pub uncompressed_store_def : Profile → ℕ → StoreRead
-uncompressed_store_def p w = cond (is_long w) (store_def p w) (Refused 3)
+abbrev pub uncompressed_store_def : Profile → ℕ → Answer StoreInstr
+uncompressed_store_def p w = cond (is_long w) (store_def p w) (Err refusal.NotTheForm)
 
-abbrev pub compressed_store_def : Profile → ℕ → StoreRead
-compressed_store_def p w = cond (is_long w) (Refused 3) (store_def p w)
+abbrev pub compressed_store_def : Profile → ℕ → Answer StoreInstr
+compressed_store_def p w = cond (is_long w) (Err refusal.NotTheForm) (store_def p w)

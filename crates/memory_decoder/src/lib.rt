@@ -12,6 +12,7 @@ ghost use Rattle.memory_decoder.specs.Load.{load_def, uncompressed_load_def, com
 ghost use Rattle.memory_decoder.specs.Store.{store_def, uncompressed_store_def, compressed_store_def};
 
 use profiles::Profile;
+use refusals::Refusal;
 use registers::Register;
 use utils::Width;
 
@@ -63,22 +64,8 @@ pub struct StoreInstr {
     pub is_compressed: bool,
 }
 
-// What a word is read as in the load reading: the load, or the refusal's number.
-#[derive(Clone, Copy)]
-pub enum LoadRead {
-    Load(LoadInstr),
-    Refused(u8),
-}
-
-// What a word is read as in the store reading: the store, or the refusal's number.
-#[derive(Clone, Copy)]
-pub enum StoreRead {
-    Store(StoreInstr),
-    Refused(u8),
-}
-
 // Decodes a raw read RISC-V instruction.
-pub fn decode_load(ctx: Profile, raw: usize) -> LoadRead
+pub fn decode_load(ctx: Profile, raw: usize) -> Result<LoadInstr, Refusal>
     ensures { result ≡ load_def ctx raw }
 {
     match extract_last_two_bits(raw) {
@@ -88,7 +75,7 @@ pub fn decode_load(ctx: Profile, raw: usize) -> LoadRead
 }
 
 // Decodes a raw write RISC-V instruction.
-pub fn decode_store(ctx: Profile, raw: usize) -> StoreRead
+pub fn decode_store(ctx: Profile, raw: usize) -> Result<StoreInstr, Refusal>
     ensures { result ≡ store_def ctx raw }
 {
     match extract_last_two_bits(raw) {
@@ -98,7 +85,7 @@ pub fn decode_store(ctx: Profile, raw: usize) -> StoreRead
 }
 
 // Decodes a compressed load. A word of 32 bits is not of the form.
-pub fn decode_compressed_load(ctx: Profile, raw: usize) -> LoadRead
+pub fn decode_compressed_load(ctx: Profile, raw: usize) -> Result<LoadInstr, Refusal>
     ensures { result ≡ compressed_load_def ctx raw }
 {
     match extract_last_two_bits(raw) {
@@ -106,11 +93,11 @@ pub fn decode_compressed_load(ctx: Profile, raw: usize) -> LoadRead
         0b00 => decode_register_based_compressed_load(ctx, raw),
         // Stack-based load and store instructions for C set start with 0b10
         0b10 => decode_stack_based_compressed_load(ctx, raw),
-        _ => LoadRead::Refused(refusals::NOT_THE_FORM),
+        _ => Err(Refusal::NotTheForm),
     }
 }
 
-fn decode_register_based_compressed_load(ctx: Profile, raw: usize) -> LoadRead
+fn decode_register_based_compressed_load(ctx: Profile, raw: usize) -> Result<LoadInstr, Refusal>
     requires { raw % 2 ^ 2 ≡ 0b00 }
     ensures { result ≡ compressed_load_def ctx raw }
 {
@@ -119,7 +106,7 @@ fn decode_register_based_compressed_load(ctx: Profile, raw: usize) -> LoadRead
     let rs1 = compressed_register_at(raw, 7);
 
     match func3 {
-        C_LW => LoadRead::Load(LoadInstr {
+        C_LW => Ok(LoadInstr {
             rd,
             rs1,
             imm: compressed_word_imm(raw),
@@ -127,7 +114,7 @@ fn decode_register_based_compressed_load(ctx: Profile, raw: usize) -> LoadRead
             is_compressed: true,
             is_unsigned: false,
         }),
-        C_LD => LoadRead::Load(LoadInstr {
+        C_LD => Ok(LoadInstr {
             rd,
             rs1,
             imm: compressed_double_imm(raw),
@@ -135,11 +122,11 @@ fn decode_register_based_compressed_load(ctx: Profile, raw: usize) -> LoadRead
             is_compressed: true,
             is_unsigned: false,
         }),
-        _ => LoadRead::Refused(refusals::NOT_THE_FORM),
+        _ => Err(Refusal::NotTheForm),
     }
 }
 
-fn decode_stack_based_compressed_load(ctx: Profile, raw: usize) -> LoadRead
+fn decode_stack_based_compressed_load(ctx: Profile, raw: usize) -> Result<LoadInstr, Refusal>
     requires { raw % 2 ^ 2 ≡ 0b10 }
     ensures { result ≡ compressed_load_def ctx raw }
 {
@@ -147,11 +134,11 @@ fn decode_stack_based_compressed_load(ctx: Profile, raw: usize) -> LoadRead
     let rd = registers::register_at(raw, 7);
     // rd 0 is reserved
     if rd.0 == 0 {
-        return LoadRead::Refused(refusals::STACK_FORM);
+        return Err(Refusal::StackForm);
     }
 
     match func3 {
-        C_LWSP => LoadRead::Load(LoadInstr {
+        C_LWSP => Ok(LoadInstr {
             rd,
             rs1: SP,
             imm: stack_load_word_imm(raw),
@@ -159,7 +146,7 @@ fn decode_stack_based_compressed_load(ctx: Profile, raw: usize) -> LoadRead
             is_compressed: true,
             is_unsigned: false,
         }),
-        C_LDSP => LoadRead::Load(LoadInstr {
+        C_LDSP => Ok(LoadInstr {
             rd,
             rs1: SP,
             imm: stack_load_double_imm(raw),
@@ -167,12 +154,12 @@ fn decode_stack_based_compressed_load(ctx: Profile, raw: usize) -> LoadRead
             is_compressed: true,
             is_unsigned: false,
         }),
-        _ => LoadRead::Refused(refusals::STACK_FORM),
+        _ => Err(Refusal::StackForm),
     }
 }
 
 // Decodes a compressed store. A word of 32 bits is not of the form.
-pub fn decode_compressed_store(ctx: Profile, raw: usize) -> StoreRead
+pub fn decode_compressed_store(ctx: Profile, raw: usize) -> Result<StoreInstr, Refusal>
     ensures { result ≡ compressed_store_def ctx raw }
 {
     match extract_last_two_bits(raw) {
@@ -180,11 +167,11 @@ pub fn decode_compressed_store(ctx: Profile, raw: usize) -> StoreRead
         0b00 => decode_register_based_compressed_store(ctx, raw),
         // Stack-based load and store instructions for C set start with 0b10
         0b10 => decode_stack_based_compressed_store(ctx, raw),
-        _ => StoreRead::Refused(refusals::NOT_THE_FORM),
+        _ => Err(Refusal::NotTheForm),
     }
 }
 
-fn decode_register_based_compressed_store(ctx: Profile, raw: usize) -> StoreRead
+fn decode_register_based_compressed_store(ctx: Profile, raw: usize) -> Result<StoreInstr, Refusal>
     requires { raw % 2 ^ 2 ≡ 0b00 }
     ensures { result ≡ compressed_store_def ctx raw }
 {
@@ -193,25 +180,25 @@ fn decode_register_based_compressed_store(ctx: Profile, raw: usize) -> StoreRead
     let rs1 = compressed_register_at(raw, 7);
 
     match func3 {
-        C_SW => StoreRead::Store(StoreInstr {
+        C_SW => Ok(StoreInstr {
             rs2,
             rs1,
             imm: compressed_word_imm(raw),
             len: Width::Byte4,
             is_compressed: true,
         }),
-        C_SD => StoreRead::Store(StoreInstr {
+        C_SD => Ok(StoreInstr {
             rs2,
             rs1,
             imm: compressed_double_imm(raw),
             len: Width::Byte8,
             is_compressed: true,
         }),
-        _ => StoreRead::Refused(refusals::NOT_THE_FORM),
+        _ => Err(Refusal::NotTheForm),
     }
 }
 
-fn decode_stack_based_compressed_store(ctx: Profile, raw: usize) -> StoreRead
+fn decode_stack_based_compressed_store(ctx: Profile, raw: usize) -> Result<StoreInstr, Refusal>
     requires { raw % 2 ^ 2 ≡ 0b10 }
     ensures { result ≡ compressed_store_def ctx raw }
 {
@@ -219,40 +206,40 @@ fn decode_stack_based_compressed_store(ctx: Profile, raw: usize) -> StoreRead
     let rs2 = registers::register_at(raw, 2);
 
     match func3 {
-        C_SWSP => StoreRead::Store(StoreInstr {
+        C_SWSP => Ok(StoreInstr {
             rs2,
             rs1: SP,
             imm: stack_store_word_imm(raw),
             len: Width::Byte4,
             is_compressed: true,
         }),
-        C_SDSP => StoreRead::Store(StoreInstr {
+        C_SDSP => Ok(StoreInstr {
             rs2,
             rs1: SP,
             imm: stack_store_double_imm(raw),
             len: Width::Byte8,
             is_compressed: true,
         }),
-        _ => StoreRead::Refused(refusals::STACK_FORM),
+        _ => Err(Refusal::StackForm),
     }
 }
 
 // Decodes a load of 32 bits. A compressed word is not of the form.
-pub fn decode_uncompressed_load(ctx: Profile, raw: usize) -> LoadRead
+pub fn decode_uncompressed_load(ctx: Profile, raw: usize) -> Result<LoadInstr, Refusal>
     ensures { result ≡ uncompressed_load_def ctx raw }
 {
     if raw & 0b1111111 != 0x03 {
-        return LoadRead::Refused(refusals::NOT_THE_FORM);
+        return Err(Refusal::NotTheForm);
     }
     let func3 = (raw >> 12) & 0b111;
     if func3 == 0b111 {
-        return LoadRead::Refused(refusals::WIDTH);
+        return Err(Refusal::Width);
     }
     let rd = registers::register_at(raw, 7);
     let rs1 = registers::register_at(raw, 15);
     let imm = utils::bits_to_int(raw, 20);
 
-    LoadRead::Load(LoadInstr {
+    Ok(LoadInstr {
         rd,
         rs1,
         imm,
@@ -263,15 +250,15 @@ pub fn decode_uncompressed_load(ctx: Profile, raw: usize) -> LoadRead
 }
 
 // Decodes a store of 32 bits. A compressed word is not of the form.
-pub fn decode_uncompressed_store(ctx: Profile, raw: usize) -> StoreRead
+pub fn decode_uncompressed_store(ctx: Profile, raw: usize) -> Result<StoreInstr, Refusal>
     ensures { result ≡ uncompressed_store_def ctx raw }
 {
     if raw & 0b1111111 != 0x23 {
-        return StoreRead::Refused(refusals::NOT_THE_FORM);
+        return Err(Refusal::NotTheForm);
     }
     let func3 = (raw >> 12) & 0b111;
     if 0b011 < func3 {
-        return StoreRead::Refused(refusals::WIDTH);
+        return Err(Refusal::Width);
     }
     let rs1 = registers::register_at(raw, 15);
     let rs2 = registers::register_at(raw, 20);
@@ -279,7 +266,7 @@ pub fn decode_uncompressed_store(ctx: Profile, raw: usize) -> StoreRead
     let imm_11_5 = ((raw >> 25) & 0b1111111) << 5;
     let imm = utils::bits_to_int(imm_11_5 | imm_4_0, 0);
 
-    StoreRead::Store(StoreInstr {
+    Ok(StoreInstr {
         rs2,
         rs1,
         imm,

@@ -1,16 +1,17 @@
 -- What is known of a load or a store settles its form, and the word of its immediate's code: for any forms that the tables may have. Assumes nothing.
 use Rattle.utils.proofs.Prelude.{◌≡◌, refl, sym, ap, ◌∙◌, Bool, true, false, ◌&&◌, ◌||◌, not, cond, List, [], ◌∷◌, ℕ, ◌%◌, ◌<◌, eqb, ltb, get_or}
+use Rattle.std.proofs.Common.{Option, Some, None, Ok, Err}
+use Rattle.refusals.specs.Answer.{Answer}
+use Rattle.refusals.specs.declared.Refusal.TheVariants as refusal
 use Rattle.utils.proofs.Prelude.{ℤ, mag, w64, SFits, to_z, of_z, to_z-of_z, lt-ltb, ltb-true}
 use denote.Enum.Declared.{tag_of}
 use Rattle.utils.specs.Signed.{twos, code_def}
-use Rattle.utils.specs.declared.Code.{Code, TheVariants.Is, TheVariants.Out}
 use Rattle.utils.specs.declared.Width.{Width, TheVariants.Byte, TheVariants.Byte2, TheVariants.Byte4, TheVariants.Byte8}
 use Rattle.utils.proofs.Signed.{twos_lt}
 use Rattle.utils.proofs.Tests.{on}
 use Rattle.utils.specs.contracts.Width.{the_type}
 use Rattle.registers.specs.Numbers.{are_valid}
 use Rattle.registers.proofs.Numbers.{not_valid}
-use Rattle.forms.specs.declared.Wrote.{Wrote, TheVariants.Word, TheVariants.Refused}
 use Rattle.forms.specs.Layout.{Layout, Operand, imm, rd, rs1, rs2, funct, csr, short, code, all, holds}
 use Rattle.forms.specs.Meaning.{bit_of, within, put, write_of, write_as}
 use Rattle.forms.specs.Sound.{first}
@@ -49,42 +50,42 @@ anything = such []
 
 -- ---- the refusal of an instruction of no form, by its two registers
 module _ (x b : ℕ) where
-  pub numbered : {v : Bool} → are_valid x b ≡ v → Refused (cond v 9 6) ≡ Refused (unwritten x b)
-  numbered e = ap (λ (v : Bool). Refused (cond v 9 6)) (sym e)
+  pub numbered : {v : Bool} → are_valid x b ≡ v → Err (cond v 9 6) ≡ Err (unwritten x b)
+  numbered e = ap (λ (v : Bool). Err (cond v 9 6)) (sym e)
 
-  pub no_registers : {w : Wrote} → are_valid x b ≡ false → (31 < x → w ≡ Refused (unwritten x b)) → (31 < b → w ≡ Refused (unwritten x b)) → Refused 6 ≡ w
+  pub no_registers : {w : Answer ℕ} → are_valid x b ≡ false → (31 < x → w ≡ Err (unwritten x b)) → (31 < b → w ≡ Err (unwritten x b)) → Err refusal.Register ≡ w
   no_registers e f g = numbered e ∙ sym (not_valid x b e f g)
 
 -- ---- the word of the code that was found
 -- the answer of the code's last match
-abbrev pub put_code : (ℕ → ℕ) → Code → Wrote
-put_code word (Is n) = Word (word n)
-put_code word Out = Refused 10
+abbrev pub put_code : (ℕ → ℕ) → Option ℕ → Answer ℕ
+put_code word (Some n) = Ok (word n)
+put_code word None = Err refusal.Immediate
 
 -- c is what the call found, of z as the machine reads it back; k is the arm, and r the arm's answer
-pub found : (L : Layout) (word : ℕ → ℕ) (z : ℤ) → SFits w64 z → {c k : Code} {r : Wrote} → c ≡ within L (code_def 2048 (to_z w64 (of_z w64 z))) → c ≡ k → r ≡ put_code word k
+pub found : (L : Layout) (word : ℕ → ℕ) (z : ℤ) → SFits w64 z → {c k : Option ℕ} {r : Answer ℕ} → c ≡ within L (code_def 2048 (to_z w64 (of_z w64 z))) → c ≡ k → r ≡ put_code word k
     → r ≡ put (within L (code_def 2048 z)) (word (twos 2048 z))
-found L word z fits {c} {k} e q p = p ∙ same k (sym is ∙ q) ∙ ap (λ (v : Code). put v (word (twos 2048 z))) (sym q ∙ is)
+found L word z fits {c} {k} e q p = p ∙ same k (sym is ∙ q) ∙ ap (λ (v : (Option ℕ)). put v (word (twos 2048 z))) (sym q ∙ is)
   where
     is : c ≡ within L (code_def 2048 z)
     is = e ∙ ap (λ (y : ℤ). within L (code_def 2048 y)) (to_z-of_z w64 z fits)
 
-    same : (v : Code) → within L (code_def 2048 z) ≡ v → put_code word v ≡ put v (word (twos 2048 z))
-    same (Is n) f = ap (λ (m : ℕ). Word (word m)) (code_twos 2048 z n (within_is L (code_def 2048 z) n f).0)
-    same Out f = refl
+    same : (v : (Option ℕ)) → within L (code_def 2048 z) ≡ v → put_code word v ≡ put v (word (twos 2048 z))
+    same (Some n) f = ap (λ (m : ℕ). Ok (word m)) (code_twos 2048 z n (within_is L (code_def 2048 z) n f).0)
+    same None f = refl
 
 -- a form whose immediate has twelve bits holds every code
 pub all_codes : (L : Layout) → ((n : ℕ) → holds L imm n ≡ ltb n 4096) → (z : ℤ) → code_def 2048 z ≡ within L (code_def 2048 z)
-all_codes L h z = on (λ (k : Code). k ≡ within L k) (ltb (mag z) 2048) (λ e. simp (h, lt-ltb _ _ (twos_lt 2048 z (ltb-true _ _ e)))) (λ _. refl)
+all_codes L h z = on (λ (k : (Option ℕ)). k ≡ within L k) (ltb (mag z) 2048) (λ e. simp (h, lt-ltb _ _ (twos_lt 2048 z (ltb-true _ _ e)))) (λ _. refl)
 
 -- and of one whose immediate holds the multiples of s below l `offset` finds the code
-pub found_step : (L : Layout) (s l : ℕ) → ((n : ℕ) → holds L imm n ≡ (eqb (n % s) 0 && ltb n l)) → (word : ℕ → ℕ) (z : ℤ) → SFits w64 z → {c k : Code} {r : Wrote}
+pub found_step : (L : Layout) (s l : ℕ) → ((n : ℕ) → holds L imm n ≡ (eqb (n % s) 0 && ltb n l)) → (word : ℕ → ℕ) (z : ℤ) → SFits w64 z → {c k : Option ℕ} {r : Answer ℕ}
     → c ≡ stepped s l (code_def 2048 (to_z w64 (of_z w64 z))) → c ≡ k → r ≡ put_code word k → r ≡ put (within L (code_def 2048 z)) (word (twos 2048 z))
 found_step L s l h word z fits e = found L word z fits (e ∙ codes (code_def 2048 (to_z w64 (of_z w64 z))))
   where
-    codes : (k : Code) → stepped s l k ≡ within L k
-    codes (Is n) = simp h
-    codes Out = refl
+    codes : (k : (Option ℕ)) → stepped s l k ≡ within L k
+    codes (Some n) = simp h
+    codes None = refl
 
 -- ---- a width's place in a match
 pub size_tag : (len : Width) → size_of len ≡ tag_of the_type len

@@ -12,13 +12,13 @@ ghost use Rattle.memory_decoder.specs.Load as Load;
 ghost use Rattle.memory_decoder.specs.Store as Store;
 ghost use Rattle.memory_encoder.specs.LoadStore.{encode_load_def, encode_store_def, Compressed, operands, stepped};
 
-use forms::Wrote;
 use memory_decoder::{LoadInstr, StoreInstr};
 use profiles::Profile;
-use utils::{Code, Width};
+use refusals::Refusal;
+use utils::Width;
 
 // A load as a word, or the refusal's number: 6, 9 and 10 are tested in this order.
-pub fn encode_load(ctx: Profile, load: LoadInstr) -> Wrote
+pub fn encode_load(ctx: Profile, load: LoadInstr) -> Result<u64, Refusal>
     ensures { result ≡ encode_load_def ctx load }
 {
     let rd = load.rd.0;
@@ -26,11 +26,11 @@ pub fn encode_load(ctx: Profile, load: LoadInstr) -> Wrote
     let imm = load.imm;
     let len = load.len;
     if !registers::are_valid(rd, rs1) {
-        return Wrote::Refused(refusals::REGISTER);
+        return Err(Refusal::Register);
     }
     if load.is_compressed {
         if load.is_unsigned {
-            return Wrote::Refused(refusals::NO_FORM);
+            return Err(Refusal::NoForm);
         }
         if rs1 == SP {
             return encode_stack_load(rd, imm, len);
@@ -40,16 +40,16 @@ pub fn encode_load(ctx: Profile, load: LoadInstr) -> Wrote
     let func3 = load_func3(len, load.is_unsigned);
     // There is no unsigned load of 64 bits
     if func3 == 0b111 {
-        return Wrote::Refused(refusals::NO_FORM);
+        return Err(Refusal::NoForm);
     }
     match utils::code_of(imm, HALF) {
-        Code::Is(code) => Wrote::Word(load_word(rd, rs1, func3, code)),
-        Code::Out => Wrote::Refused(refusals::IMMEDIATE),
+        Some(code) => Ok(load_word(rd, rs1, func3, code)),
+        None => Err(Refusal::Immediate),
     }
 }
 
 // A store as a word, or the refusal's number, tested in the same order.
-pub fn encode_store(ctx: Profile, store: StoreInstr) -> Wrote
+pub fn encode_store(ctx: Profile, store: StoreInstr) -> Result<u64, Refusal>
     ensures { result ≡ encode_store_def ctx store }
 {
     let rs2 = store.rs2.0;
@@ -57,7 +57,7 @@ pub fn encode_store(ctx: Profile, store: StoreInstr) -> Wrote
     let imm = store.imm;
     let len = store.len;
     if !registers::are_valid(rs2, rs1) {
-        return Wrote::Refused(refusals::REGISTER);
+        return Err(Refusal::Register);
     }
     if store.is_compressed {
         if rs1 == SP {
@@ -67,8 +67,8 @@ pub fn encode_store(ctx: Profile, store: StoreInstr) -> Wrote
     }
     let func3 = size_of(len);
     match utils::code_of(imm, HALF) {
-        Code::Is(code) => Wrote::Word(store_word(rs2, rs1, func3, code)),
-        Code::Out => Wrote::Refused(refusals::IMMEDIATE),
+        Some(code) => Ok(store_word(rs2, rs1, func3, code)),
+        None => Err(Refusal::Immediate),
     }
 }
 
@@ -80,82 +80,82 @@ const SP: usize = 2;
 
 // A register-based compressed load or store of the register `reg`: `func3` is that of the 32-bit form, and the 64-bit form has the
 // next. Both registers are x8 to x15.
-fn encode_compressed(func3: usize, reg: usize, base: usize, imm: isize, len: Width) -> Wrote
+fn encode_compressed(func3: usize, reg: usize, base: usize, imm: isize, len: Width) -> Result<u64, Refusal>
     requires { (func3 < 7) × ((reg ≤ 31) × ((base ≤ 31) × (base ≡ 2 → ⊥))) }
     ensures { Compressed func3 reg base imm len result }
 {
     if reg / 8 != 1 {
-        return Wrote::Refused(refusals::NO_FORM);
+        return Err(Refusal::NoForm);
     }
     if base / 8 != 1 {
-        return Wrote::Refused(refusals::NO_FORM);
+        return Err(Refusal::NoForm);
     }
     match len {
         Width::Byte4 => match offset(imm, 4, 128) {
-            Code::Is(code) => Wrote::Word(compressed_word(func3, reg, base, code)),
-            Code::Out => Wrote::Refused(refusals::IMMEDIATE),
+            Some(code) => Ok(compressed_word(func3, reg, base, code)),
+            None => Err(Refusal::Immediate),
         },
         Width::Byte8 => match offset(imm, 8, 256) {
-            Code::Is(code) => Wrote::Word(compressed_double(func3 + 1, reg, base, code)),
-            Code::Out => Wrote::Refused(refusals::IMMEDIATE),
+            Some(code) => Ok(compressed_double(func3 + 1, reg, base, code)),
+            None => Err(Refusal::Immediate),
         },
-        _ => Wrote::Refused(refusals::NO_FORM),
+        _ => Err(Refusal::NoForm),
     }
 }
 
 // A stack-based compressed load. There is none of x0.
-fn encode_stack_load(rd: usize, imm: isize, len: Width) -> Wrote
+fn encode_stack_load(rd: usize, imm: isize, len: Width) -> Result<u64, Refusal>
     requires { rd ≤ 31 }
     ensures { result ≡ write_of loads Load.meaning (Load.mk rd 2 imm len true false) }
 {
     if rd == 0 {
-        return Wrote::Refused(refusals::NO_FORM);
+        return Err(Refusal::NoForm);
     }
     match len {
         Width::Byte4 => match offset(imm, 4, 256) {
-            Code::Is(code) => Wrote::Word(stack_load_word(rd, code)),
-            Code::Out => Wrote::Refused(refusals::IMMEDIATE),
+            Some(code) => Ok(stack_load_word(rd, code)),
+            None => Err(Refusal::Immediate),
         },
         Width::Byte8 => match offset(imm, 8, 512) {
-            Code::Is(code) => Wrote::Word(stack_load_double(rd, code)),
-            Code::Out => Wrote::Refused(refusals::IMMEDIATE),
+            Some(code) => Ok(stack_load_double(rd, code)),
+            None => Err(Refusal::Immediate),
         },
-        _ => Wrote::Refused(refusals::NO_FORM),
+        _ => Err(Refusal::NoForm),
     }
 }
 
 // A stack-based compressed store.
-fn encode_stack_store(rs2: usize, imm: isize, len: Width) -> Wrote
+fn encode_stack_store(rs2: usize, imm: isize, len: Width) -> Result<u64, Refusal>
     requires { rs2 ≤ 31 }
     ensures { result ≡ write_of stores Store.meaning (Store.mk rs2 2 imm len true) }
 {
     match len {
         Width::Byte4 => match offset(imm, 4, 256) {
-            Code::Is(code) => Wrote::Word(stack_store_word(rs2, code)),
-            Code::Out => Wrote::Refused(refusals::IMMEDIATE),
+            Some(code) => Ok(stack_store_word(rs2, code)),
+            None => Err(Refusal::Immediate),
         },
         Width::Byte8 => match offset(imm, 8, 512) {
-            Code::Is(code) => Wrote::Word(stack_store_double(rs2, code)),
-            Code::Out => Wrote::Refused(refusals::IMMEDIATE),
+            Some(code) => Ok(stack_store_double(rs2, code)),
+            None => Err(Refusal::Immediate),
         },
-        _ => Wrote::Refused(refusals::NO_FORM),
+        _ => Err(Refusal::NoForm),
     }
 }
 
 // The code of an immediate that is a multiple of `step` below `limit`.
-fn offset(imm: isize, step: usize, limit: usize) -> Code
+fn offset(imm: isize, step: usize, limit: usize) -> Option<usize>
     requires { 0 < step }
     ensures { result ≡ stepped step limit (code_def 2048 imm) }
 {
     match utils::code_of(imm, HALF) {
-        Code::Is(n) => if n % step != 0 {
-            Code::Out
+        Some(n) => if n % step != 0 {
+            None
         } else if n < limit {
-            Code::Is(n)
+            Some(n)
         } else {
-            Code::Out
+            None
         },
-        Code::Out => Code::Out,
+        None => None,
     }
 }
 

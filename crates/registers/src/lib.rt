@@ -11,11 +11,11 @@ ghost use Rattle.registers.specs.Numbers.{are_valid};
 #[derive(Clone, Copy)]
 pub struct Register(pub usize);
 
-impl Register {
-    // Convert a `usize` to a register by masking high order bits.
-    pub fn from(value: usize) -> Self
-        ensures { result ≡ record { 0 = value % 2 ^ 5 } }
-    {
+// Masks high order bits.
+impl From<usize> for Register {
+    ghost from_gives = { λ value r. r ≡ record { 0 = value % 2 ^ 5 } };
+
+    fn from(value: usize) -> Self {
         Register(value & 0b11111)
     }
 }

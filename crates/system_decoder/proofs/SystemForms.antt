@@ -1,11 +1,13 @@
 -- Which words are of which form of the SYSTEM table, by the fields that the forms fix. Assumes nothing.
 use Rattle.utils.proofs.Prelude.{◌≡◌, refl, sym, ap, ◌∙◌, subst, Bool, true, false, ◌&&◌, cond, List, [], ◌∷◌, ◌++◌, ℕ, ◌+◌, ◌*◌, ◌/◌, ◌%◌, ◌^◌, ◌<◌, arith, eqb, ltb}
+use Rattle.std.proofs.Common.{Ok, Err}
+use Rattle.refusals.specs.Answer.{Answer}
+use Rattle.refusals.specs.declared.Refusal.TheVariants as refusal
 use Rattle.utils.proofs.Prelude.{mod-eq_of_lt, eqb-true, eqb-false, lt-ltb, ltb-true}
 use Rattle.utils.specs.Field.{fld}
 use Rattle.utils.proofs.Digits.{halves}
 use Rattle.utils.proofs.Signed.{by_test}
 use Rattle.forms.specs.Layout.{Layout, all, width, matches, read, spares, readable, build, good}
-use Rattle.forms.specs.Answer.{Answer, value, refusal}
 use Rattle.forms.specs.Sound.{first}
 use Rattle.forms.specs.Meaning.{read_as, read_of, bit_of}
 use Rattle.utils.proofs.Tests.{both, on}
@@ -84,7 +86,7 @@ unfit_csr w n = unread w (isnt 12 2 0b00 ∷ []) (n, tt) wholes refl
 abbrev fence_facts : ℕ → List Fact
 fence_facts v = is 25 7 v ∷ is 12 3 0b000 ∷ is 7 5 0b00000 ∷ is 0 7 0x73 ∷ []
 
-pub at_fence : (w : ℕ) (f : Fence) → w % 2 ^ 7 ≡ 0x73 → FenceForm w (funct7 f) → shape_at w ≡ value (fence f (fld w 15 5) (fld w 20 5))
+pub at_fence : (w : ℕ) (f : Fence) → w % 2 ^ 7 ≡ 0x73 → FenceForm w (funct7 f) → shape_at w ≡ Ok (fence f (fld w 15 5) (fld w 20 5))
 unfolding shape_at
 at_fence w f e h = ap (λ (b : Bool). cond b (read_of system meaning w) (access_at w)) (lt-ltb w (2 ^ 32) (small (funct7 f) (seven f) h.above)) ∙ layout f h.above
   where
@@ -102,13 +104,13 @@ at_fence w f e h = ap (λ (b : Bool). cond b (read_of system meaning w) (access_
     facts : (v : ℕ) → v < 2 ^ 7 → w / 2 ^ 25 ≡ v → Known w (fence_facts v)
     facts v l q = let z = zeros h.middle in (ap (λ (x : ℕ). x % 2 ^ 7) q ∙ mod-eq_of_lt l, (z.0, (z.1, (e, tt))))
 
-    layout : (f : Fence) → w / 2 ^ 25 ≡ funct7 f → read_of system meaning w ≡ value (fence f (fld w 15 5) (fld w 20 5))
+    layout : (f : Fence) → w / 2 ^ 25 ≡ funct7 f → read_of system meaning w ≡ Ok (fence f (fld w 15 5) (fld w 20 5))
     layout Vma q = known system refl w (fence_facts (funct7 Vma)) (facts (funct7 Vma) (seven Vma) q) refl
     layout Vvma q = known system refl w (fence_facts (funct7 Vvma)) (facts (funct7 Vvma) (seven Vvma) q) refl
     layout Gvma q = known system refl w (fence_facts (funct7 Gvma)) (facts (funct7 Gvma) (seven Gvma) q) refl
 
 -- ---- CSR forms
-pub at_access : (w : ℕ) (o : CsrOp) (m : Bool) → w % 2 ^ 7 ≡ 0x73 → fld w 12 3 ≡ funct3 o m → access_at w ≡ value (access o m (fld w 20 12) (fld w 7 5) (fld w 15 5))
+pub at_access : (w : ℕ) (o : CsrOp) (m : Bool) → w % 2 ^ 7 ≡ 0x73 → fld w 12 3 ≡ funct3 o m → access_at w ≡ Ok (access o m (fld w 20 12) (fld w 7 5) (fld w 15 5))
 unfolding access_at
 at_access w Write false e f = known accesses refl w (is 12 3 0b001 ∷ is 0 7 0x73 ∷ []) (f, (e, tt)) refl
 at_access w Set false e f = known accesses refl w (is 12 3 0b010 ∷ is 0 7 0x73 ∷ []) (f, (e, tt)) refl
@@ -118,17 +120,17 @@ at_access w Set true e f = known accesses refl w (is 12 3 0b110 ∷ is 0 7 0x73 
 at_access w Clear true e f = known accesses refl w (is 12 3 0b111 ∷ is 0 7 0x73 ∷ []) (f, (e, tt)) refl
 
 -- ---- words of no form
-pub at_foreign : (w : ℕ) → (w % 2 ^ 7 ≡ 0x73 → ⊥) → shape_at w ≡ refusal 1
+pub at_foreign : (w : ℕ) → (w % 2 ^ 7 ≡ 0x73 → ⊥) → shape_at w ≡ Err refusal.Unknown
 unfolding shape_at access_at
 at_foreign w n =
-    on (λ (k : Answer Shape). k ≡ refusal 1) (ltb w (2 ^ 32))
+    on (λ (k : Answer Shape). k ≡ Err refusal.Unknown) (ltb w (2 ^ 32))
     (λ _. known system refl w (isnt 0 7 0x73 ∷ []) (n, tt) refl) (λ _. known accesses refl w (isnt 0 7 0x73 ∷ []) (n, tt) refl)
 
 pub low_two : (w : ℕ) → fld w 12 3 % 4 ≡ fld w 12 2
 low_two w = omega arith
 
 -- bits 13:12 are zero: bits 14:12 are 0 or 4
-pub at_no_op : (w : ℕ) → w % 2 ^ 7 ≡ 0x73 → fld w 12 3 % 4 ≡ 0 → access_at w ≡ refusal 1
+pub at_no_op : (w : ℕ) → w % 2 ^ 7 ≡ 0x73 → fld w 12 3 % 4 ≡ 0 → access_at w ≡ Err refusal.Unknown
 unfolding access_at
 at_no_op w e z = known accesses refl w (is 0 7 0x73 ∷ is 12 2 0b00 ∷ []) (e, (sym (low_two w) ∙ z, tt)) refl
 

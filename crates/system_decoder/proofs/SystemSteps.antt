@@ -1,10 +1,11 @@
 -- What each exit of `shape_at` and of `access_at` knows is what the reading asks there. Assumes nothing.
 use Rattle.utils.proofs.Prelude.{◌≡◌, refl, sym, ap, ◌∙◌, subst, ℕ, ◌+◌, ◌*◌, ◌/◌, ◌%◌, ◌^◌, ◌<◌, ◌≤◌, add-zero, arith, eqb, and_mask, bit_and}
+use Rattle.std.proofs.Common.{Ok, Err}
+use Rattle.refusals.specs.declared.Refusal.TheVariants as refusal
 use Rattle.utils.specs.Field.{fld}
 use Rattle.utils.proofs.Bits.{mask_field}
 use Rattle.utils.proofs.Digits.{fld_lt, same_high}
 use Rattle.forms.specs.Meaning.{bit_of}
-use Rattle.forms.specs.Answer.{value, refusal}
 use Rattle.forms.proofs.Codes.{bit_one}
 use Rattle.system_decoder.specs.declared.CsrOp.{CsrOp}
 use Rattle.system_decoder.specs.declared.Fence.{Fence, TheVariants.Vma, TheVariants.Vvma, TheVariants.Gvma}
@@ -18,7 +19,7 @@ use Rattle.system_decoder.proofs.SystemForms.{FenceForm, past_wholes, unfit_othe
 pub opcode : (w : ℕ) → bit_and w 0x7F ≡ 0x73 → w % 2 ^ 7 ≡ 0x73
 opcode w e = sym (and_mask w 7) ∙ e
 
-pub foreign : (w : ℕ) → (bit_and w 0x7F ≡ 0x73 → ⊥) → refusal 1 ≡ shape_at w
+pub foreign : (w : ℕ) → (bit_and w 0x7F ≡ 0x73 → ⊥) → Err refusal.Unknown ≡ shape_at w
 foreign w n = sym (at_foreign w (λ e. n (and_mask w 7 ∙ e)))
 
 -- the bits that tell the fences
@@ -37,8 +38,8 @@ module _ (w : ℕ) (h : w < 2 ^ 64) (k : ℕ) where
 
 module _ (w : ℕ) (h : w < 2 ^ 64) where
   pub fenced : bit_and w 0x7F ≡ 0x73 → (f : Fence) → bit_and w fence_bits ≡ funct7 f * 2 ^ 25 → {s : Shape} → s ≡ fence f (fld w 15 5) (fld w 20 5)
-      → (value s ≡ shape_at w) × FieldsOf w s
-  fenced e f q k = (ap value k ∙ sym (at_fence w f (opcode w e) (told_fence w h (funct7 f) q)), subst (FieldsOf w) (sym k) tt)
+      → (Ok s ≡ shape_at w) × FieldsOf w s
+  fenced e f q k = (ap Ok k ∙ sym (at_fence w f (opcode w e) (told_fence w h (funct7 f) q)), subst (FieldsOf w) (sym k) tt)
 
   -- the word is not WFI, MRET, SRET or a fence
   pub other : (w ≡ 0x10500073 → ⊥) → (w ≡ 0x30200073 → ⊥) → (w ≡ 0x10200073 → ⊥)
@@ -53,7 +54,7 @@ module _ (w : ℕ) (h : w < 2 ^ 64) where
 
 -- ---- access_at
 module _ (w : ℕ) where
-  pub no_op : w % 2 ^ 7 ≡ 0x73 → bit_and (w / 2 ^ 12) 3 ≡ 0 → refusal 1 ≡ access_at w
+  pub no_op : w % 2 ^ 7 ≡ 0x73 → bit_and (w / 2 ^ 12) 3 ≡ 0 → Err refusal.Unknown ≡ access_at w
   no_op e z = sym (at_no_op w e (low_two w ∙ sym (mask_field w 12 2) ∙ z))
 
   pub some_code : (bit_and (w / 2 ^ 12) 3 ≡ 0 → ⊥) → (1 ≤ bit_and (w / 2 ^ 12) 3) × (bit_and (w / 2 ^ 12) 3 ≤ 3)
@@ -74,10 +75,10 @@ module _ (w : ℕ) where
   )
 
   pub accessed : w % 2 ^ 7 ≡ 0x73 → (o : CsrOp) → op_code o ≡ bit_and (w / 2 ^ 12) 3
-      → value (access o (eqb (bit_and (w / 2 ^ 14) 1) 1) (bit_and (w / 2 ^ 20) 4095) (bit_and (w / 2 ^ 7) 31) (bit_and (w / 2 ^ 15) 31)) ≡ access_at w
+      → Ok (access o (eqb (bit_and (w / 2 ^ 14) 1) 1) (bit_and (w / 2 ^ 20) 4095) (bit_and (w / 2 ^ 7) 31) (bit_and (w / 2 ^ 15) 31)) ≡ access_at w
   accessed e o c =
       let f = fields o c in
-      (λ j. value (access o (eqb (mask_field w 14 1 j) 1) (mask_field w 20 12 j) (mask_field w 7 5 j) (mask_field w 15 5 j)))
+      (λ j. Ok (access o (eqb (mask_field w 14 1 j) 1) (mask_field w 20 12 j) (mask_field w 7 5 j) (mask_field w 15 5 j)))
       ∙ sym (at_access w o (eqb (fld w 14 1) 1) e (whole (op_code o) (bit_of (eqb (fld w 14 1) 1)) (sym f.0) (bit_one (fld w 14 1) (fld_lt w 14 1))))
     where
       whole : (k b : ℕ) → k ≡ fld w 12 2 → b ≡ fld w 14 1 → fld w 12 3 ≡ k + 4 * b

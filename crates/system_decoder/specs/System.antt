@@ -1,28 +1,26 @@
 -- What a SYSTEM word is by its fields alone, and which of that a profile allows: document 01's "Reading a SYSTEM word", but for the typed
 -- instruction.
 use Rattle.std.specs.Prelude.{Bool, true, false, ◌&&◌, ◌||◌, not, cond, ◌≡◌, List, [], ◌∷◌, ℕ, ◌+◌, ◌*◌, ◌^◌, ◌≤◌, ◌<◌, eqb, ltb, get_or}
+use Rattle.std.specs.Prelude.{Some, Ok, Err}
+use Rattle.refusals.specs.Answer.{Answer}
 use Rattle.utils.specs.Field.{fld}
-use Rattle.utils.specs.declared.Code.TheVariants.{Is as IsCode}
 use Rattle.profiles.specs.declared.Profile.{Profile}
 use Rattle.csrs.specs.Gates.{available}
 use Rattle.forms.specs.Layout.{Operand, imm, rd, rs1, rs2, funct, csr, short}
-use Rattle.forms.specs.Answer.{Answer, value, refusal}
 use Rattle.forms.specs.Meaning.{Meaning, read_of, bit_of}
 use Rattle.system_decoder.specs.Forms.{system, accesses}
 use Rattle.system_decoder.specs.declared.CsrOp.{CsrOp}
 use Rattle.system_decoder.specs.declared.CsrOp.TheVariants.{Write, Set, Clear}
 use Rattle.system_decoder.specs.declared.Fence.{Fence}
 use Rattle.system_decoder.specs.declared.Fence.TheVariants.{Vma, Vvma, Gvma}
-use Rattle.system_decoder.specs.declared.Shaped.{Shaped}
-use Rattle.system_decoder.specs.declared.Shaped.TheVariants.{Is, Refused}
 use Rattle.system_decoder.specs.declared.Shape.{Shape}
 use Rattle.system_decoder.specs.declared.Shape.TheVariants.{Wfi as wfi, Mret as mret, Sret as sret, Fence as fence, Access as access}
 
 -- ---- a word by its fields alone: no profile, and an address where an instruction has a register
 -- (the code's `Shape`; an access says whether it is immediate, the address, rd, and rs1 or uimm)
-abbrev pub shape_in : Shaped → Answer Shape
-shape_in (Is s) = value s
-shape_in (Refused n) = refusal n
+abbrev pub shape_in : Answer Shape → Answer Shape
+shape_in (Ok s) = Ok s
+shape_in (Err n) = Err n
 
 -- funct3's low two bits, which are also the log's operation codes
 abbrev pub op_code : CsrOp → ℕ
@@ -89,7 +87,7 @@ operands_of (access o m a d x) = operands (form_number (access o m a d x)) d x 0
 
 -- a word that has no form is refused with 1, `Unknown`; a shape that has none has a register above 31
 abbrev pub meaning : Meaning Shape
-meaning = record { make = λ env. get_or (shapes env) (env funct) wfi; ops = operands_of; code = λ s. IsCode 0; is_short = λ s. false; reading_refusal = λ w. 1; writing_refusal = λ s. 6 }
+meaning = record { make = λ env. get_or (shapes env) (env funct) wfi; ops = operands_of; code = λ s. Some 0; is_short = λ s. false; reading_refusal = λ w. 1; writing_refusal = λ s. 6 }
 
 -- CSR forms ignore bits above 31
 unfoldable pub access_at : ℕ → Answer Shape
@@ -115,9 +113,9 @@ FieldsOf w sret = Unit {0}
 FieldsOf w (fence f a b) = Unit {0}
 FieldsOf w (access o m a d x) = (fld w 12 2 ≡ op_code o) × ((fld w 14 1 ≡ bit_of m) × ((fld w 20 12 ≡ a) × ((fld w 7 5 ≡ d) × (fld w 15 5 ≡ x))))
 
-abbrev pub FieldsIn : ℕ → Shaped → Type 0
-FieldsIn w (Is s) = FieldsOf w s
-FieldsIn w (Refused n) = Unit {0}
+abbrev pub FieldsIn : ℕ → Answer Shape → Type 0
+FieldsIn w (Ok s) = FieldsOf w s
+FieldsIn w (Err n) = Unit {0}
 
 -- ---- which accesses write, and which registers may not be written
 -- write always writes; set and clear write when the rs1 field is not 0

@@ -1,8 +1,9 @@
 -- Which numbers the checks of a shape refuse with. Assumes nothing.
 use Rattle.utils.proofs.Prelude.{◌≡◌, sym, inl, inr, Bool, true, false, ◌&&◌, [], ◌∷◌, ℕ, leb}
+use Rattle.std.proofs.Common.{Err}
+use Rattle.refusals.specs.Answer.{Answer}
 use Rattle.profiles.specs.declared.Profile.{Profile}
 use Rattle.csrs.specs.Gates.{available}
-use Rattle.forms.specs.Answer.{Answer, refusal}
 use Rattle.forms.specs.Numbers.{OneOf}
 use Rattle.utils.proofs.Tests.{on}
 use Rattle.forms.proofs.Answer.{no_value}
@@ -14,7 +15,7 @@ use Rattle.system_encoder.specs.System.{reached, checked_def}
 
 -- the checks' numbers
 abbrev pub ByChecks : Answer Shape → Type 0
-ByChecks k = (n : ℕ) → k ≡ refusal n → OneOf (6 ∷ 7 ∷ 8 ∷ []) n
+ByChecks k = (n : ℕ) → k ≡ Err n → OneOf (6 ∷ 7 ∷ 8 ∷ []) n
 
 pub check_numbers : (p : Profile) (s : Shape) → ByChecks (checked_def p s)
 check_numbers p wfi = λ n e. no_value n wfi (sym e)

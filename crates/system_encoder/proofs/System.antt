@@ -1,15 +1,14 @@
 -- The table of SYSTEM words is sound and its shapes are faithful to it; what is read is low, and what may be written is as it was, low, and has
 -- a word. Assumes nothing.
 use Rattle.utils.proofs.Prelude.{◌≡◌, refl, sym, ap, ◌∙◌, subst, Bool, true, false, List, [], ◌∷◌, ℕ, zero, suc, ◌^◌, ◌<◌, ◌≤◌, arith, ltb, get_or, lt-ltb}
-use Rattle.utils.specs.declared.Code.TheVariants.{Is}
+use Rattle.std.proofs.Common.{Some, Ok, Err}
+use Rattle.refusals.specs.Answer.{Answer, number_in}
 use Rattle.registers.specs.Numbers.{are_valid}
 use Rattle.registers.proofs.Numbers.{valid}
 use Rattle.profiles.specs.declared.Profile.{Profile}
 use Rattle.csrs.specs.Gates.{available}
 use Rattle.csrs.proofs.Laws.{available_lt}
-use Rattle.forms.specs.declared.Wrote.TheVariants.{Word}
 use Rattle.forms.specs.Layout.{Layout, Operand, imm, rd, rs1, rs2, funct, csr, all}
-use Rattle.forms.specs.Answer.{Answer, value, refusal, number_in}
 use Rattle.forms.specs.Sound.{sound}
 use Rattle.forms.specs.Meaning.{Agrees, Every, Faithful, read_of, write_of}
 use Rattle.utils.proofs.Tests.{on}
@@ -36,7 +35,7 @@ faithful = record { layouts = layouts; code_ops = code_ops; make_ops = λ s _ _.
     layouts : Every (λ L. (w : ℕ) → Agrees meaning L w) system
     layouts = search depth 20
 
-    code_ops : (s : Shape) (n : ℕ) → Is 0 ≡ Is n → n ≡ operands_of s imm
+    code_ops : (s : Shape) (n : ℕ) → Some 0 ≡ Some n → n ≡ operands_of s imm
     code_ops wfi n e = cc
     code_ops mret n e = cc
     code_ops sret n e = cc
@@ -73,36 +72,36 @@ shapes_low env c d a b =
     let x : (env csr < 2 ^ 12) × ((env rd ≤ 31) × (env rs1 ≤ 31)) = (c, (d, a)) in
     get_d_each Low (shapes env) (env funct) wfi (tt, (tt, (tt, (f, (f, (f, (x, (x, (x, (x, (x, (x, tt)))))))))))) tt
 
-pub read_low : (T : List Layout) → sound T ≡ true → all (roomy room) T ≡ true → (w : ℕ) (s : Shape) → read_of T meaning w ≡ value s → Low s
+pub read_low : (T : List Layout) → sound T ≡ true → all (roomy room) T ≡ true → (w : ℕ) (s : Shape) → read_of T meaning w ≡ Ok s → Low s
 read_low T ok r w s e =
     let m = made_of T meaning room ok r w s e in
     subst Low m.same (shapes_low m.env (m.low csr) (omega (arith, m.low rd)) (omega (arith, m.low rs1)) (omega (arith, m.low rs2)))
 
-pub shape_low : (w : ℕ) (s : Shape) → shape_at w ≡ value s → Low s
+pub shape_low : (w : ℕ) (s : Shape) → shape_at w ≡ Ok s → Low s
 unfolding shape_at access_at
-shape_low w s = on (λ (k : Answer Shape). k ≡ value s → Low s) (ltb w (2 ^ 32)) (λ _. read_low system refl refl w s) (λ _. read_low accesses refl refl w s)
+shape_low w s = on (λ (k : Answer Shape). k ≡ Ok s → Low s) (ltb w (2 ^ 32)) (λ _. read_low system refl refl w s) (λ _. read_low accesses refl refl w s)
 
 -- ---- what can be written is as it was, and low, and has a word
-pub checked_is : (p : Profile) (s t : Shape) → checked_def p s ≡ value t → (s ≡ t) × Low t
+pub checked_is : (p : Profile) (s t : Shape) → checked_def p s ≡ Ok t → (s ≡ t) × Low t
 checked_is p wfi t = λ e. let z : wfi ≡ t = cc in (z, subst Low z tt)
 checked_is p mret t = λ e. let z : mret ≡ t = cc in (z, subst Low z tt)
 checked_is p sret t = λ e. let z : sret ≡ t = cc in (z, subst Low z tt)
 checked_is p (fence f a b) t =
-    on (λ (k : Answer Shape). k ≡ value t → (fence f a b ≡ t) × Low t) (are_valid a b)
+    on (λ (k : Answer Shape). k ≡ Ok t → (fence f a b ≡ t) × Low t) (are_valid a b)
     (λ q e. let z : fence f a b ≡ t = cc in (z, subst Low z (valid a b q))) (λ _ e. no_value 6 t e)
 checked_is p (access o m a d x) t =
-    on (λ (k : Answer Shape). k ≡ value t → (access o m a d x ≡ t) × Low t) (are_valid d x)
+    on (λ (k : Answer Shape). k ≡ Ok t → (access o m a d x ≡ t) × Low t) (are_valid d x)
     (λ q. let l = valid d x q in go l.0 l.1 (available p a) refl (barred_def a (always o) x)) (λ _ e. no_value 6 t e)
   where
-    go : d ≤ 31 → x ≤ 31 → (k : Bool) → available p a ≡ k → (b : Bool) → reached k b (access o m a d x) ≡ value t → (access o m a d x ≡ t) × Low t
+    go : d ≤ 31 → x ≤ 31 → (k : Bool) → available p a ≡ k → (b : Bool) → reached k b (access o m a d x) ≡ Ok t → (access o m a d x ≡ t) × Low t
     go g h true q true e = no_value 8 t e
     go g h true q false e = let z : access o m a d x ≡ t = cc in (z, subst Low z (available_lt p a q, (g, h)))
     go g h false q b e = no_value 7 t e
 
 -- a shape that is refused with 0 is not refused
 abbrev Numbered : Answer Shape → Type 0
-Numbered (value s) = Unit {0}
-Numbered (refusal n) = 0 < n
+Numbered (Ok s) = Unit {0}
+Numbered (Err n) = 0 < n
 
 numbered : (p : Profile) (s : Shape) → Numbered (checked_def p s)
 numbered p wfi = tt
@@ -114,21 +113,21 @@ numbered p (access o m a d x) =
     (λ _. on Numbered (available p a) (λ _. on Numbered (barred_def a (always o) x) (λ _. omega arith) (λ _. tt)) (λ _. omega arith))
     (λ _. omega arith)
 
-pub not_refused : (p : Profile) (s : Shape) → number_in (checked_def p s) ≡ 0 → (checked_def p s ≡ value s) × Low s
+pub not_refused : (p : Profile) (s : Shape) → number_in (checked_def p s) ≡ 0 → (checked_def p s ≡ Ok s) × Low s
 not_refused p s = go (checked_def p s) refl (numbered p s)
   where
-    go : (k : Answer Shape) → checked_def p s ≡ k → Numbered k → number_in k ≡ 0 → (checked_def p s ≡ value s) × Low s
-    go (value t) e h z = let c = checked_is p s t e in (e ∙ ap value (sym c.0), subst Low (sym c.0) c.1)
-    go (refusal n) e h z = absurd (omega arith)
+    go : (k : Answer Shape) → checked_def p s ≡ k → Numbered k → number_in k ≡ 0 → (checked_def p s ≡ Ok s) × Low s
+    go (Ok t) e h z = let c = checked_is p s t e in (e ∙ ap Ok (sym c.0), subst Low (sym c.0) c.1)
+    go (Err n) e h z = absurd (omega arith)
 
-low_word : (s : Shape) → Low s → (w : ℕ) × (write_of system meaning s ≡ Word w)
+low_word : (s : Shape) → Low s → (w : ℕ) × (write_of system meaning s ≡ Ok w)
 low_word wfi l = (_, refl)
 low_word mret l = (_, refl)
 low_word sret l = (_, refl)
 low_word (fence f a b) l = (_, sym (fence_word_lem a b l.0 l.1 f))
 low_word (access o m a d x) l = (_, sym (access_word_lem a d x l.0 l.1.0 l.1.1 o m))
 
-pub checked_word : (p : Profile) (s t : Shape) → checked_def p s ≡ value t → (w : ℕ) × ((write_shape (value t) ≡ Word w) × (w < 2 ^ 32))
+pub checked_word : (p : Profile) (s t : Shape) → checked_def p s ≡ Ok t → (w : ℕ) × ((write_shape (Ok t) ≡ Ok w) × (w < 2 ^ 32))
 checked_word p s t e = let k = low_word t (checked_is p s t e).1 in (k.0, (k.1, (Demand3.write_then_read system meaning system_sound faithful t k.0 k.1).0))
 
 -- ---- a word below 2^32

@@ -1,17 +1,17 @@
 -- What each exit of the SYSTEM writing's functions knows is what the definition asks there. Assumes nothing.
 use Rattle.utils.proofs.Prelude.{◌≡◌, refl, sym, ap, ◌∙◌, subst, Bool, true, false, ◌||◌, not, cond, [], ◌∷◌, ℕ, ◌*◌, ◌-◌, ◌%◌, ◌^◌, ◌<◌, ◌≤◌, arith, leb}
+use Rattle.std.proofs.Common.{Some, None, Ok, Err}
+use Rattle.refusals.specs.Answer.{number_in}
+use Rattle.refusals.specs.declared.Refusal.TheVariants as refusal
 use Rattle.utils.proofs.Prelude.{mod-eq_of_lt, and_mask, bit_and, not-true}
 use borrow.Author.Tests.{not-false}
 use lib.Bits.{bit_or}
-use Rattle.forms.specs.declared.Wrote.TheVariants.{Word}
 use Rattle.forms.specs.Layout.{Layout, Operand, imm, rd, rs1, rs2, funct, csr, short, all, width, holds, good, build}
-use Rattle.forms.specs.Answer.{value, refusal, number_in}
 use Rattle.forms.specs.Sound.{first}
 use Rattle.forms.specs.Meaning.{write_as, write_of, put}
 use Rattle.forms.proofs.Facts.{under}
 use Rattle.forms.proofs.Choices.{Told, exactly, such, KnownAs, picks, drops, by_operands}
 use Rattle.forms.proofs.Shifts.{or_build, put_together}
-use Rattle.utils.specs.declared.Code.TheVariants.{Is, Out}
 use Rattle.system_decoder.specs.declared.CsrOp.{CsrOp, TheVariants.Write, TheVariants.Set, TheVariants.Clear}
 use Rattle.system_decoder.specs.declared.Fence.{Fence, TheVariants.Vma, TheVariants.Vvma, TheVariants.Gvma}
 use Rattle.system_decoder.specs.Forms.{funct7, sfence_vma, hfence_vvma, hfence_gvma, csrrw, csrrs, csrrc, csrrwi, csrrsi, csrrci, system}
@@ -35,10 +35,10 @@ told k d a b c short = exactly 0
 
 -- a shape of which this settles that the form is L is written by L
 module _ (s : Shape) (ks : Operand → Told) (h : (x : Operand) → KnownAs (operands_of s x) (ks x)) (L : Layout) where
-  by_layout : all (λ M. drops ks M || picks ks M) system ≡ true → first (λ M. not (drops ks M)) system 6 ≡ value L → holds L imm 0 ≡ true → good L ≡ true → leb (width L) 64 ≡ true
-      → {r : ℕ} → r ≡ or_build L (operands_of s) → Word r ≡ write_of system meaning s
+  by_layout : all (λ M. drops ks M || picks ks M) system ≡ true → first (λ M. not (drops ks M)) system 6 ≡ Ok L → holds L imm 0 ≡ true → good L ≡ true → leb (width L) 64 ≡ true
+      → {r : ℕ} → r ≡ or_build L (operands_of s) → Ok r ≡ write_of system meaning s
   by_layout t f i g l e =
-      ap Word (e ∙ put_together L g l (operands_of s)) ∙ ap (λ (b : Bool). put (cond b (Is 0) Out) (build L (operands_of s))) (sym i)
+      ap Ok (e ∙ put_together L g l (operands_of s)) ∙ ap (λ (b : Bool). put (cond b (Some 0) None) (build L (operands_of s))) (sym i)
       ∙ ap (write_as meaning s) (sym f) ∙ sym (by_operands system meaning refl s ks h t)
 
 -- the code does not mask what it has tested
@@ -61,7 +61,7 @@ module _ (a d x : ℕ) (la : a < 2 ^ 12) (ld : d ≤ 31) (lx : x ≤ 31) where
   masks : (f : ℕ) → access_word a x f d ≡ access_word (bit_and a 4095) (bit_and x 31) f (bit_and d 31)
   masks f = λ j. access_word (unmasked 12 a la j) (unmasked 5 x (omega arith) j) f (unmasked 5 d (omega arith) j)
 
-  pub access_word_lem : (o : CsrOp) (m : Bool) → Word (access_word a x (funct3 o m * 2 ^ 12) d) ≡ write_of system meaning (access o m a d x)
+  pub access_word_lem : (o : CsrOp) (m : Bool) → Ok (access_word a x (funct3 o m * 2 ^ 12) d) ≡ write_of system meaning (access o m a d x)
   access_word_lem Write false = by_layout (access Write false a d x) (access_told 6) (known (access Write false a d x) 6 refl) csrrw refl refl refl refl refl (masks 0x1000)
   access_word_lem Set false = by_layout (access Set false a d x) (access_told 7) (known (access Set false a d x) 7 refl) csrrs refl refl refl refl refl (masks 0x2000)
   access_word_lem Clear false = by_layout (access Clear false a d x) (access_told 8) (known (access Clear false a d x) 8 refl) csrrc refl refl refl refl refl (masks 0x3000)
@@ -85,7 +85,7 @@ module _ (a b : ℕ) (la : a ≤ 31) (lb : b ≤ 31) where
   fence_masks : (f : ℕ) → fence_word f a b ≡ fence_word f (bit_and a 31) (bit_and b 31)
   fence_masks f = λ j. fence_word f (unmasked 5 a (omega arith) j) (unmasked 5 b (omega arith) j)
 
-  pub fence_word_lem : (f : Fence) → Word (fence_word (funct7 f * 2 ^ 25) a b) ≡ write_of system meaning (fence f a b)
+  pub fence_word_lem : (f : Fence) → Ok (fence_word (funct7 f * 2 ^ 25) a b) ≡ write_of system meaning (fence f a b)
   fence_word_lem Vma = by_layout (fence Vma a b) (fence_told 3) (fence_known (fence Vma a b) 3 refl) sfence_vma refl refl refl refl refl (fence_masks (funct7 Vma * 2 ^ 25))
   fence_word_lem Vvma = by_layout (fence Vvma a b) (fence_told 4) (fence_known (fence Vvma a b) 4 refl) hfence_vvma refl refl refl refl refl (fence_masks (funct7 Vvma * 2 ^ 25))
   fence_word_lem Gvma = by_layout (fence Gvma a b) (fence_told 5) (fence_known (fence Gvma a b) 5 refl) hfence_gvma refl refl refl refl refl (fence_masks (funct7 Gvma * 2 ^ 25))
@@ -93,8 +93,8 @@ module _ (a b : ℕ) (la : a ≤ 31) (lb : b ≤ 31) where
 -- ---- 6, 7 and 8 of an access: v is what `are_valid` gave, k `is_available`, b `is_barred`
 module _ (p : Profile) (o : CsrOp) (a d x : ℕ) {v : Bool} (e : v ≡ are_valid d x) where
   asked : (u t b : Bool) → v ≡ u → t ≡ available p a → b ≡ barred_def a (always o) x → (m : Bool)
-      → number_in (cond u (reached t b (access o m a d x)) (refusal 6)) ≡ number_in (checked_def p (access o m a d x))
-  asked u t b q f g m = λ j. number_in (cond ((sym q ∙ e) j) (reached (f j) (g j) (access o m a d x)) (refusal 6))
+      → number_in (cond u (reached t b (access o m a d x)) (Err refusal.Register)) ≡ number_in (checked_def p (access o m a d x))
+  asked u t b q f g m = λ j. number_in (cond ((sym q ∙ e) j) (reached (f j) (g j) (access o m a d x)) (Err refusal.Register))
 
   pub past_31 : not v ≡ true → (m : Bool) → 6 ≡ number_in (checked_def p (access o m a d x))
   past_31 q = asked false (available p a) (barred_def a (always o) x) (not-true v q) refl refl

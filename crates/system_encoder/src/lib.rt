@@ -10,19 +10,19 @@ ghost use Rattle.system_decoder.specs.Forms.{funct7, system};
 ghost use Rattle.system_decoder.specs.System.{Low, funct3, meaning};
 ghost use Rattle.system_encoder.specs.System.{checked_def, write_shape};
 
-use forms::Wrote;
 use profiles::Profile;
+use refusals::Refusal;
 use system_decoder::{CsrOp, Fence, Shape};
 
 // The word of a shape that may hold any numbers, or refusal 6, 7 or 8.
-pub fn encode_shape(ctx: Profile, shape: Shape) -> Wrote
+pub fn encode_shape(ctx: Profile, shape: Shape) -> Result<u64, Refusal>
     ensures { result ≡ write_shape (checked_def ctx shape) }
 {
     let number = refusal_of(ctx, shape);
     if number != 0 {
-        return Wrote::Refused(number);
+        return Err(number);
     }
-    Wrote::Word(word_of(shape))
+    Ok(word_of(shape))
 }
 
 // Why the profile does not let a shape that may hold any numbers be written, 0 where it does: what a word, a log record and a line of
@@ -37,7 +37,7 @@ pub fn refusal_of(ctx: Profile, shape: Shape) -> u8
         Shape::Fence { rs1, rs2, .. } => if registers::are_valid(rs1, rs2) {
             0
         } else {
-            refusals::REGISTER
+            Refusal::Register
         },
         Shape::Access {
             op,
@@ -54,15 +54,15 @@ fn access_refusal(ctx: Profile, op: CsrOp, csr: usize, rd: usize, src: usize) ->
     ensures { (imm : Bool) → result ≡ number_in (checked_def ctx (Shape.Access op imm csr rd src)) }
 {
     if !registers::are_valid(rd, src) {
-        return refusals::REGISTER;
+        return Refusal::Register;
     }
     // The readings ask `decode_csr`, for the reason. With `is_available` here the look-up under both has two callers, so the compiler
     // keeps it as one function, and the readings merge the rest (docs/SPEED.md).
     if !csrs::is_available(ctx, csr) {
-        return refusals::CSR;
+        return Refusal::Csr;
     }
     if system_decoder::is_barred(csr, system_decoder::always_writes(op), src) {
-        return refusals::READ_ONLY;
+        return Refusal::ReadOnly;
     }
     0
 }

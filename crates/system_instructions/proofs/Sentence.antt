@@ -1,5 +1,6 @@
 -- Demand 3's last sentence: on which grounds a word in CSR form is refused as InvalidCsrOp. Assumes nothing.
 use Rattle.utils.proofs.Prelude.{◌≡◌, refl, sym, ap, ◌∙◌, ◌⊎◌, inl, inr, ⊎_elim, ◌↔◌, Bool, true, false, ◌&&◌, ◌||◌, not, cond, false≢true, ℕ, ◌%◌, arith, eqb}
+use Rattle.std.proofs.Common.{Ok}
 use Rattle.utils.proofs.Prelude.{eq-eqb, ne_eqb, eqb-true, eqb-false, not-true}
 use Rattle.utils.specs.Field.{fld}
 use Rattle.utils.proofs.Digits.{fld_lt}
@@ -9,7 +10,6 @@ use Rattle.utils.proofs.Tests.{both, join}
 use Rattle.system_decoder.specs.declared.CsrOp.{CsrOp, TheVariants.Write, TheVariants.Set, TheVariants.Clear}
 use Rattle.system_decoder.specs.declared.Shape.TheVariants.{Access as access}
 use Rattle.system_decoder.specs.System.{op_code, funct3, read_only, always, barred_def, shape_at}
-use Rattle.forms.specs.Answer.{value}
 use Rattle.system_instructions.specs.Instruction.{illegal_def, number_of}
 use Rattle.system_instructions.specs.Grounds.{CsrForm, address, ReadOnlyWrite, Grounds, Invalid}
 use Rattle.system_decoder.proofs.SystemForms.{past_wholes, unfit_csr, at_access, one_of_six, op_of, low_two}
@@ -48,7 +48,7 @@ module _ (w : ℕ) (f : CsrForm w) where
   op : fld w 12 2 ≡ op_code six.0
   op = sym (low_two w) ∙ ap (λ (x : ℕ). x % 4) six.2 ∙ op_of six.0 six.1
 
-  pub csr_shape : shape_at w ≡ value (access six.0 six.1 (address w) (fld w 7 5) (fld w 15 5))
+  pub csr_shape : shape_at w ≡ Ok (access six.0 six.1 (address w) (fld w 7 5) (fld w 15 5))
   csr_shape = past_wholes w (λ _. unfit_csr w f.1) ∙ at_access w six.0 six.1 f.0 six.2
 
   -- whether it would write a read-only register

@@ -1,17 +1,16 @@
 -- The demand on reading and writing (forms' `Demand3`), for the SYSTEM reading: over `illegal_def` and `encode_illegal_def`, any profile, and any
 -- instruction value, nonsense included. The table gives it for shapes; what a profile makes of a shape goes both ways. Assumes nothing.
 use Rattle.utils.proofs.Prelude.{◌≡◌, refl, sym, ap, ◌∙◌, subst, ⊎_elim, Bool, true, false, cond, ℕ, ◌^◌, ◌<◌, arith}
+use Rattle.std.proofs.Common.{Ok, Err}
+use Rattle.refusals.specs.Answer.{Answer}
+use Rattle.refusals.specs.declared.Refusal.TheVariants as refusal
 use Rattle.csr_addresses.specs.declared.Csr.{Csr}
-use Rattle.csr_addresses.specs.declared.Idx.{Idx, TheVariants.At, TheVariants.Refused as Nowhere}
 use Rattle.csr_addresses.specs.Address.{idx_def}
 use Rattle.registers.specs.Numbers.{are_valid}
 use Rattle.registers.proofs.Numbers.{are_valid_lem}
-use Rattle.csrs.specs.declared.CsrLookup.{TheVariants.Found}
 use Rattle.profiles.specs.declared.Profile.{Profile}
 use Rattle.csrs.specs.Gates.{decode_csr_def, available}
 use Rattle.csrs.proofs.Laws.{found_idx, found_lt, own, available_found, found_available, none_found, look}
-use Rattle.forms.specs.declared.Wrote.TheVariants.{Word}
-use Rattle.forms.specs.Answer.{Answer, value, refusal}
 use Rattle.forms.specs.Meaning.{read_of}
 use Rattle.forms.specs.Demand3.{RefusedExactly, OnlyWord}
 use Rattle.utils.proofs.Tests.{on}
@@ -22,7 +21,6 @@ use Rattle.system_decoder.specs.declared.Fence.{Fence, TheVariants.Vma, TheVaria
 use Rattle.system_encoder.proofs.System.{system_sound, faithful, read_low, short_word}
 use Rattle.system_instructions.specs.declared.IllegalInst.{IllegalInst}
 use Rattle.system_instructions.specs.declared.IllegalInst.TheVariants.{Wfi, Csrrw, Csrrs, Csrrc, Csrrwi, Csrrsi, Csrrci, Mret, Sret, Sfencevma, Hfencevvma, Hfencegvma}
-use Rattle.system_instructions.specs.declared.IllegalRead.TheVariants.{Inst, InvalidCsrOp}
 use Rattle.system_decoder.specs.Forms.{system}
 use Rattle.system_decoder.specs.declared.Shape.{Shape}
 use Rattle.system_decoder.specs.declared.Shape.TheVariants.{Wfi as wfi, Mret as mret, Sret as sret, Fence as fence, Access as access}
@@ -35,23 +33,23 @@ use Rattle.system_encoder.specs.System.{reached, checked_def, write_shape}
 pub record Legal (p : Profile) (o : CsrOp) (m : Bool) (a d x : ℕ) (i : IllegalInst) : Type 0 where
   pub csr : Csr
   pub free : barred_def a (always o) x ≡ false
-  pub at : decode_csr_def p a ≡ Found csr
+  pub at : decode_csr_def p a ≡ Ok csr
   pub is : inst_of o m csr d x ≡ i
 
-invalid_no : {X : Type 0} {i : IllegalInst} → InvalidCsrOp ≡ Inst i → X
+invalid_no : {X : Type 0} {i : IllegalInst} → (Err refusal.InvalidCsrOp) ≡ Ok i → X
 invalid_no e = absurd (let z : ◌≡◌ {A = ℕ} 0 1 = cc in omega arith)
 
-pub legal : (p : Profile) (o : CsrOp) (m : Bool) (a d x : ℕ) (i : IllegalInst) → inst_at p (access o m a d x) ≡ Inst i → Legal p o m a d x i
+pub legal : (p : Profile) (o : CsrOp) (m : Bool) (a d x : ℕ) (i : IllegalInst) → inst_at p (access o m a d x) ≡ Ok i → Legal p o m a d x i
 legal p o m a d x i = go (barred_def a (always o) x) refl
   where
-    made : (c : Csr) → Inst (inst_of o m c d x) ≡ Inst i → inst_of o m c d x ≡ i
+    made : (c : Csr) → Ok (inst_of o m c d x) ≡ Ok i → inst_of o m c d x ≡ i
     made c e = cc
 
-    go : (b : Bool) → barred_def a (always o) x ≡ b → cond b InvalidCsrOp (found_def (decode_csr_def p a) o m d x) ≡ Inst i → Legal p o m a d x i
+    go : (b : Bool) → barred_def a (always o) x ≡ b → cond b (Err refusal.InvalidCsrOp) (found_def (decode_csr_def p a) o m d x) ≡ Ok i → Legal p o m a d x i
     go true q e = invalid_no e
     go false q e =
         ⊎_elim (λ t. record { csr = t.0; free = q; at = t.1; is = made t.0 (sym (ap (λ k. found_def k o m d x) t.1) ∙ e) })
-        (λ n. invalid_no (sym (none_found (λ c. Inst (inst_of o m c d x)) InvalidCsrOp p a n) ∙ e)) (look p a)
+        (λ n. invalid_no (sym (none_found (λ c. Ok (inst_of o m c d x)) (Err refusal.InvalidCsrOp) p a n) ∙ e)) (look p a)
 
 pub own_fence : (f : Fence) (a b : ℕ) → own_shape (fence_of f a b) ≡ fence f a b
 own_fence Vma a b = refl
@@ -67,26 +65,26 @@ own_access Set true c d x = refl
 own_access Clear true c d x = refl
 
 -- the register that is found at an address has the address
-pub own_found : (p : Profile) (o : CsrOp) (m : Bool) (a d x : ℕ) (c : Csr) → decode_csr_def p a ≡ Found c → own_shape (inst_of o m c d x) ≡ access o m a d x
-own_found p o m a d x c e = own_access o m c d x ∙ ap (λ (y : Idx). access o m (place_of y) d x) (found_idx p a c e)
+pub own_found : (p : Profile) (o : CsrOp) (m : Bool) (a d x : ℕ) (c : Csr) → decode_csr_def p a ≡ Ok c → own_shape (inst_of o m c d x) ≡ access o m a d x
+own_found p o m a d x c e = own_access o m c d x ∙ ap (λ (y : (Answer ℕ)). access o m (place_of y) d x) (found_idx p a c e)
 
-pub inst_back : (p : Profile) (s : Shape) (i : IllegalInst) → Low s → inst_at p s ≡ Inst i → shape_for p i ≡ value s
+pub inst_back : (p : Profile) (s : Shape) (i : IllegalInst) → Low s → inst_at p s ≡ Ok i → shape_for p i ≡ Ok s
 inst_back p wfi i l e = let z : Wfi ≡ i = cc in ap (shape_for p) (sym z)
 inst_back p mret i l e = let z : Mret ≡ i = cc in ap (shape_for p) (sym z)
 inst_back p sret i l e = let z : Sret ≡ i = cc in ap (shape_for p) (sym z)
 inst_back p (fence f a b) i l e =
     let z : fence_of f a b ≡ i = cc in
-    ap (shape_for p) (sym z) ∙ ap (checked_def p) (own_fence f a b) ∙ ap (λ (v : Bool). cond v (value (fence f a b)) (refusal 6)) (are_valid_lem a b l.0 l.1)
+    ap (shape_for p) (sym z) ∙ ap (checked_def p) (own_fence f a b) ∙ ap (λ (v : Bool). cond v (Ok (fence f a b)) (Err refusal.Register)) (are_valid_lem a b l.0 l.1)
 inst_back p (access o m a d x) i l e =
     let t = legal p o m a d x i e in
     ap (shape_for p) (sym t.is) ∙ ap (checked_def p) (own_found p o m a d x t.csr t.at)
-    ∙ ap (λ (v : Bool). cond v (reached (available p a) (barred_def a (always o) x) (access o m a d x)) (refusal 6)) (are_valid_lem d x l.1.0 l.1.1)
+    ∙ ap (λ (v : Bool). cond v (reached (available p a) (barred_def a (always o) x) (access o m a d x)) (Err refusal.Register)) (are_valid_lem d x l.1.0 l.1.1)
     ∙ (λ j. reached (found_available p a t.at j) (t.free j) (access o m a d x))
 
 module _ (p : Profile) where
   abbrev Reads : IllegalInst → Answer Shape → Type 0
-  Reads i (value s) = inst_at p s ≡ Inst i
-  Reads i (refusal n) = Unit {0}
+  Reads i (Ok s) = inst_at p s ≡ Ok i
+  Reads i (Err n) = Unit {0}
 
   fence_reads : (f : Fence) (a b : ℕ) → Reads (fence_of f a b) (checked_def p (fence f a b))
   fence_reads f a b = on (Reads (fence_of f a b)) (are_valid a b) (λ _. refl) (λ _. tt)
@@ -98,16 +96,16 @@ module _ (p : Profile) where
       Read = Reads (inst_of o m c d x)
 
       -- what is found there is the register, if anything is
-      there : (a : ℕ) → ((f : Csr) → decode_csr_def p a ≡ Found f → f ≡ c) → Read (reached (available p a) (barred_def a (always o) x) (access o m a d x))
+      there : (a : ℕ) → ((f : Csr) → decode_csr_def p a ≡ Ok f → f ≡ c) → Read (reached (available p a) (barred_def a (always o) x) (access o m a d x))
       there a e =
           on Read (available p a) (λ t. on Read (barred_def a (always o) x) (λ _. tt) (λ b. found (available_found p a (rw t tt)) b)) (λ _. tt)
         where
-          found : ((f : Csr) × (decode_csr_def p a ≡ Found f)) → barred_def a (always o) x ≡ false → Read (value (access o m a d x))
-          found w b = (λ j. cond (b j) InvalidCsrOp (found_def (w.1 j) o m d x)) ∙ ap (λ (y : Csr). Inst (inst_of o m y d x)) (e w.0 w.1)
+          found : ((f : Csr) × (decode_csr_def p a ≡ Ok f)) → barred_def a (always o) x ≡ false → Read (Ok (access o m a d x))
+          found w b = (λ j. cond (b j) (Err refusal.InvalidCsrOp) (found_def (w.1 j) o m d x)) ∙ ap (λ (y : Csr). Ok (inst_of o m y d x)) (e w.0 w.1)
 
-      place : (i : Idx) → idx_def c ≡ i → Read (reached (available p (place_of i)) (barred_def (place_of i) (always o) x) (access o m (place_of i) d x))
-      place (At a) e = there a (λ f q. own p a c f e q)
-      place (Nowhere n) e = there (2 ^ 12) (λ f q. absurd (omega (arith, found_lt p (2 ^ 12) f q)))
+      place : (i : (Answer ℕ)) → idx_def c ≡ i → Read (reached (available p (place_of i)) (barred_def (place_of i) (always o) x) (access o m (place_of i) d x))
+      place (Ok a) e = there a (λ f q. own p a c f e q)
+      place (Err n) e = there (2 ^ 12) (λ f q. absurd (omega (arith, found_lt p (2 ^ 12) f q)))
 
   reads : (i : IllegalInst) → Reads i (shape_for p i)
   reads Wfi = refl
@@ -123,34 +121,34 @@ module _ (p : Profile) where
   reads (Hfencevvma a b) = fence_reads Vvma a.0 b.0
   reads (Hfencegvma a b) = fence_reads Gvma a.0 b.0
 
-  pub inst_forth : (i : IllegalInst) (s : Shape) → shape_for p i ≡ value s → inst_at p s ≡ Inst i
+  pub inst_forth : (i : IllegalInst) (s : Shape) → shape_for p i ≡ Ok s → inst_at p s ≡ Ok i
   inst_forth i s e = subst (Reads i) e (reads i)
 
 -- ---- the demand
 -- a word that is read as an instruction is what the instruction is written as
-pub read_then_write : (p : Profile) (w : ℕ) (i : IllegalInst) → illegal_def p w ≡ Inst i → w < 2 ^ 32 → encode_illegal_def p i ≡ Word w
+pub read_then_write : (p : Profile) (w : ℕ) (i : IllegalInst) → illegal_def p w ≡ Ok i → w < 2 ^ 32 → encode_illegal_def p i ≡ Ok w
 unfolding illegal_def encode_illegal_def
 read_then_write p w i q h = go (read_of system meaning w) refl (ap (read_shape p) (sym (short_word w h)) ∙ q)
   where
-    go : (k : Answer Shape) → read_of system meaning w ≡ k → read_shape p k ≡ Inst i → encode_illegal_def p i ≡ Word w
-    go (value s) e r = ap write_shape (inst_back p s i (read_low system refl refl w s e) r) ∙ Demand3.read_then_write system meaning system_sound faithful w s e h
-    go (refusal n) e r = absurd (let z : ◌≡◌ {A = ℕ} 0 1 = cc in omega arith)
+    go : (k : Answer Shape) → read_of system meaning w ≡ k → read_shape p k ≡ Ok i → encode_illegal_def p i ≡ Ok w
+    go (Ok s) e r = ap write_shape (inst_back p s i (read_low system refl refl w s e) r) ∙ Demand3.read_then_write system meaning system_sound faithful w s e h
+    go (Err n) e r = absurd (let z : ◌≡◌ {A = ℕ} 0 1 = cc in omega arith)
 
 -- the word that an instruction is written as is below 2^32, and is read as the instruction
-pub write_then_read : (p : Profile) (i : IllegalInst) (w : ℕ) → encode_illegal_def p i ≡ Word w → (w < 2 ^ 32) × (illegal_def p w ≡ Inst i)
+pub write_then_read : (p : Profile) (i : IllegalInst) (w : ℕ) → encode_illegal_def p i ≡ Ok w → (w < 2 ^ 32) × (illegal_def p w ≡ Ok i)
 unfolding illegal_def encode_illegal_def
 write_then_read p i w = go (shape_for p i) refl
   where
-    go : (k : Answer Shape) → shape_for p i ≡ k → write_shape k ≡ Word w → (w < 2 ^ 32) × (illegal_def p w ≡ Inst i)
-    go (value s) e q =
+    go : (k : Answer Shape) → shape_for p i ≡ k → write_shape k ≡ Ok w → (w < 2 ^ 32) × (illegal_def p w ≡ Ok i)
+    go (Ok s) e q =
         let t = Demand3.write_then_read system meaning system_sound faithful s w q in
         (t.0, ap (read_shape p) (short_word w t.0 ∙ t.1) ∙ inst_forth p i s e)
-    go (refusal n) e q = no_word n q
+    go (Err n) e q = no_word n q
 
 -- writing an instruction is refused exactly when no word below 2^32 is read as the instruction
-pub refused_exactly : (p : Profile) (i : IllegalInst) → RefusedExactly (λ x. illegal_def p x ≡ Inst i) (2 ^ 32) (encode_illegal_def p i)
-refused_exactly p i = refused_by (λ x. illegal_def p x ≡ Inst i) (2 ^ 32) (encode_illegal_def p i) (λ x h e. read_then_write p x i e h) (write_then_read p i)
+pub refused_exactly : (p : Profile) (i : IllegalInst) → RefusedExactly (λ x. illegal_def p x ≡ Ok i) (2 ^ 32) (encode_illegal_def p i)
+refused_exactly p i = refused_by (λ x. illegal_def p x ≡ Ok i) (2 ^ 32) (encode_illegal_def p i) (λ x h e. read_then_write p x i e h) (write_then_read p i)
 
 -- and no two words below 2^32 are
-pub only_word : (p : Profile) (i : IllegalInst) → OnlyWord (λ x. illegal_def p x ≡ Inst i) (2 ^ 32)
-only_word p i = only_by (λ x. illegal_def p x ≡ Inst i) (2 ^ 32) (encode_illegal_def p i) (λ x h e. read_then_write p x i e h) (write_then_read p i)
+pub only_word : (p : Profile) (i : IllegalInst) → OnlyWord (λ x. illegal_def p x ≡ Ok i) (2 ^ 32)
+only_word p i = only_by (λ x. illegal_def p x ≡ Ok i) (2 ^ 32) (encode_illegal_def p i) (λ x h e. read_then_write p x i e h) (write_then_read p i)

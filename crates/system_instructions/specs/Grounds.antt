@@ -1,10 +1,11 @@
 -- The words in which demand 3's last sentence is stated: "A word in CSR form is refused as InvalidCsrOp exactly when its address names no register
 -- available under the profile, or it would write a read-only one."
 use Rattle.std.specs.Prelude.{◌≡◌, false, ◌⊎◌, ℕ, ◌%◌, ◌^◌}
+use Rattle.std.specs.Prelude.{Err}
+use Rattle.refusals.specs.declared.Refusal.TheVariants as refusal
 use Rattle.utils.specs.Field.{fld}
 use Rattle.profiles.specs.declared.Profile.{Profile}
 use Rattle.csrs.specs.Gates.{available}
-use Rattle.system_instructions.specs.declared.IllegalRead.TheVariants.{InvalidCsrOp}
 use Rattle.system_instructions.specs.Instruction.{illegal_def, number_of}
 
 -- low seven bits 0x73, bits 13:12 not zero
@@ -33,4 +34,4 @@ Grounds p w = (available p (address w) ≡ false) ⊎ ReadOnlyWrite w
 
 -- refused as InvalidCsrOp
 abbrev pub Invalid : Profile → ℕ → Type 0
-Invalid p w = number_of (illegal_def p w) ≡ number_of InvalidCsrOp
+Invalid p w = number_of (illegal_def p w) ≡ number_of (Err refusal.InvalidCsrOp)

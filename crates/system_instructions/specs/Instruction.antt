@@ -1,16 +1,15 @@
 -- The typed instruction of a SYSTEM word: what a profile makes of a word's shape, and the shape in which an instruction is written. With it
 -- document 01's "Reading a SYSTEM word" is whole.
 use Rattle.std.specs.Prelude.{Bool, true, false, cond, ℕ, ◌^◌}
+use Rattle.std.specs.Prelude.{Result, Ok, Err}
+use Rattle.refusals.specs.Answer.{Answer}
+use Rattle.refusals.specs.declared.Refusal.TheVariants as refusal
+use Rattle.csrs.specs.declared.Absent.{Absent}
 use Rattle.csr_addresses.specs.declared.Csr.{Csr}
-use Rattle.csr_addresses.specs.declared.Idx.{Idx}
-use Rattle.csr_addresses.specs.declared.Idx.TheVariants.{At, Refused as Nowhere}
 use Rattle.csr_addresses.specs.Address.{idx_def}
 use Rattle.registers.specs.declared.Register.{Register}
-use Rattle.csrs.specs.declared.CsrLookup.{CsrLookup}
 use Rattle.csrs.specs.Gates.{decode_csr_def, if_found}
 use Rattle.profiles.specs.declared.Profile.{Profile}
-use Rattle.forms.specs.declared.Wrote.{Wrote}
-use Rattle.forms.specs.Answer.{Answer, value, refusal}
 use Rattle.system_decoder.specs.declared.CsrOp.{CsrOp}
 use Rattle.system_decoder.specs.declared.CsrOp.TheVariants.{Write, Set, Clear}
 use Rattle.system_decoder.specs.declared.Fence.{Fence}
@@ -21,14 +20,12 @@ use Rattle.system_decoder.specs.System.{always, barred_def, shape_at}
 use Rattle.system_encoder.specs.System.{checked_def, write_shape}
 use Rattle.system_instructions.specs.declared.IllegalInst.{IllegalInst}
 use Rattle.system_instructions.specs.declared.IllegalInst.TheVariants.{Wfi, Csrrw, Csrrs, Csrrc, Csrrwi, Csrrsi, Csrrci, Mret, Sret, Sfencevma, Hfencevvma, Hfencegvma}
-use Rattle.system_instructions.specs.declared.IllegalRead.{IllegalRead}
-use Rattle.system_instructions.specs.declared.IllegalRead.TheVariants.{Inst, Unknown, InvalidCsrOp}
 
 -- document 01's number for each answer; 0 is no refusal
-abbrev pub number_of : IllegalRead → ℕ
-number_of (Inst i) = 0
-number_of Unknown = 1
-number_of InvalidCsrOp = 2
+abbrev pub number_of : Answer IllegalInst → ℕ
+number_of (Ok i) = 0
+number_of (Err refusal.Unknown) = 1
+number_of (Err refusal.InvalidCsrOp) = 2
 
 -- ---- what a profile makes of a shape
 abbrev pub register : ℕ → Register
@@ -47,29 +44,29 @@ fence_of Vma a b = Sfencevma (register a) (register b)
 fence_of Vvma a b = Hfencevvma (register a) (register b)
 fence_of Gvma a b = Hfencegvma (register a) (register b)
 
-abbrev pub found_def : CsrLookup → CsrOp → Bool → ℕ → ℕ → IllegalRead
-found_def k o m d x = if_found (λ c. Inst (inst_of o m c d x)) InvalidCsrOp k
+abbrev pub found_def : Result Csr Absent → CsrOp → Bool → ℕ → ℕ → Answer IllegalInst
+found_def k o m d x = if_found (λ c. Ok (inst_of o m c d x)) (Err refusal.InvalidCsrOp) k
 
-abbrev pub inst_at : Profile → Shape → IllegalRead
-inst_at p wfi = Inst Wfi
-inst_at p mret = Inst Mret
-inst_at p sret = Inst Sret
-inst_at p (fence f a b) = Inst (fence_of f a b)
-inst_at p (access o m a d x) = cond (barred_def a (always o) x) InvalidCsrOp (found_def (decode_csr_def p a) o m d x)
+abbrev pub inst_at : Profile → Shape → Answer IllegalInst
+inst_at p wfi = Ok Wfi
+inst_at p mret = Ok Mret
+inst_at p sret = Ok Sret
+inst_at p (fence f a b) = Ok (fence_of f a b)
+inst_at p (access o m a d x) = cond (barred_def a (always o) x) (Err refusal.InvalidCsrOp) (found_def (decode_csr_def p a) o m d x)
 
 -- ---- the reading
-abbrev pub read_shape : Profile → Answer Shape → IllegalRead
-read_shape p (value s) = inst_at p s
-read_shape p (refusal n) = Unknown
+abbrev pub read_shape : Profile → Answer Shape → Answer IllegalInst
+read_shape p (Ok s) = inst_at p s
+read_shape p (Err n) = (Err refusal.Unknown)
 
-unfoldable pub illegal_def : Profile → ℕ → IllegalRead
+unfoldable pub illegal_def : Profile → ℕ → Answer IllegalInst
 illegal_def p w = read_shape p (shape_at w)
 
 -- ---- the shape of an instruction
 -- a register that has no address of its own gets 4096, where no profile has one
-abbrev pub place_of : Idx → ℕ
-place_of (At a) = a
-place_of (Nowhere n) = 2 ^ 12
+abbrev pub place_of : Answer ℕ → ℕ
+place_of (Ok a) = a
+place_of (Err n) = 2 ^ 12
 
 abbrev pub access_to : CsrOp → Bool → Csr → ℕ → ℕ → Shape
 access_to o m c d x = access o m (place_of (idx_def c)) d x
@@ -92,5 +89,5 @@ abbrev pub shape_for : Profile → IllegalInst → Answer Shape
 shape_for p i = checked_def p (own_shape i)
 
 -- ---- the writing
-unfoldable pub encode_illegal_def : Profile → IllegalInst → Wrote
+unfoldable pub encode_illegal_def : Profile → IllegalInst → Answer ℕ
 encode_illegal_def p i = write_shape (shape_for p i)

@@ -1,5 +1,6 @@
 -- The laws of two's complement over a half H, once for every width, and the machine's reading of a signed number. Assumes nothing.
 use Rattle.utils.proofs.Prelude.{◌≡◌, refl, sym, ap, ◌∙◌, subst, Bool, true, false, cond, ℕ, suc, ◌*◌, ◌-◌, ◌%◌, ◌^◌, ◌<◌, ◌≤◌, arith, ltb, T}
+use Rattle.std.proofs.Common.{Option, Some, None}
 use Rattle.utils.proofs.Prelude.{mod-eq_of_lt, ℤ, mag, and_mask, bit_and, w64, SFits, Fits, to_z, of_z, to_z-of_z, lt-ltb, le-ltb, ltb-true, ltb-false}
 use native.Mathlib.Nat.{suc-sub-suc}
 use Rattle.std.proofs.Common.{pos, negsuc, ◌-ℤ◌, nat_abs}
@@ -8,7 +9,6 @@ use lib.Bits.{and_le_r}
 use mir.ValLaws.{to_z_pos}
 use Rattle.utils.specs.declared.Sign.{Sign, TheVariants.Up, TheVariants.Down}
 use Rattle.utils.specs.Signed.{signed, twos, parts, code_def}
-use Rattle.utils.specs.declared.Code.{Code, TheVariants.Is, TheVariants.Out}
 
 -- ---- a test, both ways, with its equation
 pub by_test : {X : Type 0} (b : Bool) → (b ≡ true → X) → (b ≡ false → X) → X
@@ -148,15 +148,15 @@ on : {X : Type 0} (P : X → Type 0) (pick : Bool → X) (b : Bool) → (b ≡ t
 on P pick true f g = f refl
 on P pick false f g = g refl
 
-not_out : {X : Type 0} (n : ℕ) → Out ≡ Is n → X
+not_out : {X : Type 0} (n : ℕ) → None ≡ Some n → X
 not_out n q = let z : ◌≡◌ {A = ℕ} 0 1 = cc in absurd (omega arith)
 
-pub code_signed : (H y : ℕ) → y < 2 * H → code_def H (signed H y) ≡ Is y
-code_signed H y h = simp (lt-ltb (mag (signed H y)) H (signed_mag H y h)) (ap Is (twos_signed H y h))
+pub code_signed : (H y : ℕ) → y < 2 * H → code_def H (signed H y) ≡ Some y
+code_signed H y h = simp (lt-ltb (mag (signed H y)) H (signed_mag H y h)) (ap Some (twos_signed H y h))
 
-pub code_is : (H : ℕ) (z : ℤ) (y : ℕ) → code_def H z ≡ Is y → (y < 2 * H) × (signed H y ≡ z)
+pub code_is : (H : ℕ) (z : ℤ) (y : ℕ) → code_def H z ≡ Some y → (y < 2 * H) × (signed H y ≡ z)
 code_is H z y =
-    on (λ (k : Code). k ≡ Is y → (y < 2 * H) × (signed H y ≡ z)) (λ b. cond b (Is (twos H z)) Out) (ltb (mag z) H)
+    on (λ (k : (Option ℕ)). k ≡ Some y → (y < 2 * H) × (signed H y ≡ z)) (λ b. cond b (Some (twos H z)) None) (ltb (mag z) H)
     (λ e q. let same : twos H z ≡ y = cc in
     subst (λ (x : ℕ). (x < 2 * H) × (signed H x ≡ z)) same (twos_lt H z (ltb-true _ _ e), signed_twos H z (ltb-true _ _ e)))
     (λ e q. not_out y q)

@@ -1,10 +1,10 @@
 -- The four widths of an access in bits and bytes, and sign extension from a width to 64 bits.
-use Rattle.std.specs.Prelude.{ℕ, ◌-◌, ◌*◌, ◌/◌, ◌%◌, ◌^◌, cond, ◌==◌}
+use Rattle.std.specs.Prelude.{ℕ, ◌-◌, ◌*◌, ◌/◌, ◌%◌, ◌^◌, cond, ◌==◌, ◌≡◌}
+use Rattle.std.specs.Prelude.{Result, Ok, Err}
+use Rattle.utils.specs.declared.UnknownWidth.{UnknownWidth}
 use Rattle.utils.specs.Signed.{signed, twos}
 use Rattle.utils.specs.declared.Width.{Width}
 use Rattle.utils.specs.declared.Width.TheVariants.{Byte, Byte2, Byte4, Byte8}
-use Rattle.utils.specs.declared.WidthFrom.{WidthFrom}
-use Rattle.utils.specs.declared.WidthFrom.TheVariants.{Is, Invalid}
 
 abbrev pub bits_of : Width → ℕ
 bits_of Byte = 8
@@ -15,14 +15,17 @@ bits_of Byte8 = 64
 abbrev pub bytes_of : Width → ℕ
 bytes_of w = bits_of w / 8
 
--- the width of n bits
-abbrev pub width_from : ℕ → WidthFrom
+-- the width of n bits, or that no width has as many
+abbrev pub width_from : ℕ → Result Width UnknownWidth
 width_from n =
-    cond (n == 8) (Is Byte)
-    (cond (n == 16) (Is Byte2)
-    (cond (n == 32) (Is Byte4)
-    (cond (n == 64) (Is Byte8)
-    Invalid)))
+    cond (n == 8) (Ok Byte)
+    (cond (n == 16) (Ok Byte2)
+    (cond (n == 32) (Ok Byte4)
+    (cond (n == 64) (Ok Byte8)
+    (Err (record { 0 = n })))))
+
+abbrev pub IsWidthFrom : ℕ → Result Width UnknownWidth → Type 0
+IsWidthFrom n r = r ≡ width_from n
 
 -- half of the codes that a width has: the first that means a negative number
 abbrev pub half_of : Width → ℕ

@@ -5,7 +5,7 @@
 ghost use Rattle.std.specs.Prelude.{◌≡◌, ◌+◌, ◌%◌, ◌^◌, ◌<◌, ◌≤◌};
 ghost use Rattle.utils.specs.Field.{fld};
 ghost use Rattle.utils.specs.Signed.{signed, twos, parts, code_def};
-ghost use Rattle.utils.specs.Width.{bits_of, bytes_of, width_from, half_of, extended};
+ghost use Rattle.utils.specs.Width.{bits_of, bytes_of, IsWidthFrom, half_of, extended};
 
 // Represents different data widths:
 //  - `Byte`: 8 bits (1 byte)
@@ -18,13 +18,6 @@ pub enum Width {
     Byte2,
     Byte4,
     Byte8,
-}
-
-// The width of so many bits; the Rust panics if there is no such width.
-#[derive(Clone, Copy)]
-pub enum WidthFrom {
-    Is(Width),
-    Invalid,
 }
 
 impl Width {
@@ -44,16 +37,25 @@ impl Width {
     {
         self.to_bits() / 8
     }
+}
 
-    pub fn from(value: usize) -> WidthFrom
-        ensures { result ≡ width_from value }
-    {
-        match value {
-            8 => WidthFrom::Is(Width::Byte),
-            16 => WidthFrom::Is(Width::Byte2),
-            32 => WidthFrom::Is(Width::Byte4),
-            64 => WidthFrom::Is(Width::Byte8),
-            _ => WidthFrom::Invalid,
+// A number of bits that no width has.
+#[derive(Clone, Copy)]
+pub struct UnknownWidth(pub usize);
+
+// The width of so many bits; the Rust panics if there is no such width.
+impl TryFrom<usize> for Width {
+    type Error = UnknownWidth;
+
+    ghost try_from_gives = { IsWidthFrom };
+
+    fn try_from(bits: usize) -> Result<Self, UnknownWidth> {
+        match bits {
+            8 => Ok(Width::Byte),
+            16 => Ok(Width::Byte2),
+            32 => Ok(Width::Byte4),
+            64 => Ok(Width::Byte8),
+            _ => Err(UnknownWidth(bits)),
         }
     }
 }
@@ -62,10 +64,7 @@ impl Width {
 pub fn calculate_addr(self_value: usize, imm: isize) -> usize
     ensures { result ≡ (self_value + twos (2 ^ 63) imm) % 2 ^ 64 }
 {
-    match sign_of(imm) {
-        Sign::Up(n) => std::num::wrapping_add_usize(self_value, n),
-        Sign::Down(m) => std::num::wrapping_add_usize(self_value, usize::MAX - m),
-    }
+    self_value.wrapping_add_signed(imm)
 }
 
 // Performs a sign extension assuming the provided width of the value.
@@ -126,24 +125,17 @@ pub fn sign_of(z: isize) -> Sign
     }
 }
 
-// The code of a signed number in a field, or `Out`.
-#[derive(Clone, Copy)]
-pub enum Code {
-    Is(usize),
-    Out,
-}
-
 // The code of imm in two's complement, of which twice half are there; the way back from `bits_to_int` at half 2048.
-pub fn code_of(imm: isize, half: u32) -> Code
+pub fn code_of(imm: isize, half: u32) -> Option<usize>
     ensures { result ≡ code_def half imm }
 {
     let half = half as usize;
     match sign_of(imm) {
-        Sign::Up(n) => if n < half { Code::Is(n) } else { Code::Out },
+        Sign::Up(n) => if n < half { Some(n) } else { None },
         Sign::Down(m) => if m < half {
-            Code::Is(2 * half - 1 - m)
+            Some(2 * half - 1 - m)
         } else {
-            Code::Out
+            None
         },
     }
 }

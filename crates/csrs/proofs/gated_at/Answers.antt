@@ -1,8 +1,8 @@
 -- Each arm names a register and its address, a range is the block of a family, and where no arm answers there is no row.
 use Rattle.utils.proofs.Prelude.{◌≡◌, refl, sym, ap, ◌∙◌, false, List, [], ◌∷◌, ℕ, ◌^◌, zero-le, arith, rules}
+use Rattle.std.proofs.Common.{Ok}
 use Rattle.utils.proofs.Arms.{any, run, climb}
 use Rattle.csr_addresses.specs.declared.Csr.{Csr}
-use Rattle.csr_addresses.specs.declared.Idx.TheVariants.{At}
 use Rattle.csr_addresses.specs.Address.{idx_def}
 use Rattle.utils.proofs.Members.{all}
 use Rattle.csr_addresses.proofs.Find.{keeps}
@@ -24,16 +24,16 @@ keys =
 
 -- the register that was found has the address, and is none of the eight that no profile has
 record Placed (f : Csr) (a : ℕ) : Type 0 where
-  pub at : idx_def f ≡ At a
+  pub at : idx_def f ≡ Ok a
   pub other : is_never f ≡ false
 
 -- it is the arm's
-family : {f d : Csr} {a : ℕ} → f ≡ d → idx_def d ≡ At a → is_never d ≡ false → Placed f a
+family : {f d : Csr} {a : ℕ} → f ≡ d → idx_def d ≡ Ok a → is_never d ≡ false → Placed f a
 family q i n = record { at = ap idx_def q ∙ i; other = ap is_never q ∙ n }
 
 -- and so is the number
-key : {f d : Csr} {a k : ℕ} → f ≡ d → a ≡ k → idx_def d ≡ At k → is_never d ≡ false → Placed f a
-key q e i n = family q (i ∙ ap At (sym e)) n
+key : {f d : Csr} {a k : ℕ} → f ≡ d → a ≡ k → idx_def d ≡ Ok k → is_never d ≡ false → Placed f a
+key q e i n = family q (i ∙ ap Ok (sym e)) n
 
 placed : (c : goal.Joined-csr) → Placed c.match-csr.found c.args.csr
 unfolding any run is_never

@@ -1,9 +1,9 @@
 -- The tests choose the form or the refusal, and the immediate is tested by the form.
 use Rattle.utils.proofs.Prelude.{◌≡◌, refl, sym, ap, ◌∙◌, true, false, [], ◌∷◌, ℕ, ◌≤◌, arith, w64, SFits, to_z, of_z, to_z-of_z}
+use Rattle.std.proofs.Common.{Option, Ok}
+use Rattle.refusals.specs.Answer.{Answer}
 use Rattle.utils.specs.Signed.{code_def}
-use Rattle.utils.specs.declared.Code.{Code}
 use Rattle.registers.proofs.Numbers.{valid}
-use Rattle.forms.specs.declared.Wrote.{Wrote, TheVariants.Word}
 use Rattle.forms.specs.Layout.{build}
 use Rattle.forms.specs.Meaning.{bit_of, write_of}
 use Rattle.forms.proofs.Facts.{is, isnt, under, over}
@@ -19,12 +19,12 @@ use Rattle.memory_encoder.proofs.encode_load.Goals as goal
 
 module _ (i : LoadInstr) (fits : SFits w64 i.imm) where
   -- a compressed one: r is what a call answered of its parts, with the base b
-  same : {b : ℕ} {r : Wrote} → i.is_compressed ≡ true → i.is_unsigned ≡ false → b ≡ i.rs1.0
+  same : {b : ℕ} {r : Answer ℕ} → i.is_compressed ≡ true → i.is_unsigned ≡ false → b ≡ i.rs1.0
       → r ≡ write_of loads meaning (mk i.rd.0 b (to_z w64 (of_z w64 i.imm)) i.len true false) → r ≡ write_of loads meaning i
   same short plain e p = p ∙ (λ j. write_of loads meaning (mk i.rd.0 (e j) (to_z-of_z w64 i.imm fits j) i.len (sym short j) (sym plain j)))
 
   -- one of 32 bits: f is its funct3, c what `code_of` found, k the arm, r its answer
-  by_code : {f : ℕ} {c k : Code} {r : Wrote} → (i.rd.0 ≤ 31) × (i.rs1.0 ≤ 31) → i.is_compressed ≡ false → f ≡ funct3_of i.len i.is_unsigned → (f ≡ 7 → ⊥)
+  by_code : {f : ℕ} {c k : Option ℕ} {r : Answer ℕ} → (i.rd.0 ≤ 31) × (i.rs1.0 ≤ 31) → i.is_compressed ≡ false → f ≡ funct3_of i.len i.is_unsigned → (f ≡ 7 → ⊥)
       → c ≡ code_def 2048 (to_z w64 (of_z w64 i.imm)) → c ≡ k → r ≡ put_code (λ n. build load (operands i.rd.0 i.rs1.0 f n)) k → r ≡ write_of loads meaning i
   by_code low long e seven d q p =
       let t = funct3_lt i.len i.is_unsigned in
@@ -70,7 +70,7 @@ unfolding encode_load_def
 returns-in-Is c =
     let i = c.args.load in
     by_code i (record { sfits = omega arith }) (valid i.rd.0 i.rs1.0 (sym c.if-not-are_valid.ensures)) c.if-load.false c.load_func3-func3.ensures c.if-func3-eq7.false
-    c.code_of.ensures c.in-Is.is (ap Word c.load_word.ensures)
+    c.code_of.ensures c.in-Is.is (ap Ok c.load_word.ensures)
 
 pub returns-in-Out : goal.returns-in-Out
 unfolding encode_load_def

@@ -1,9 +1,9 @@
 -- The tests choose the form or the refusal, and the immediate is tested by the form.
 use Rattle.utils.proofs.Prelude.{◌≡◌, refl, sym, ap, ◌∙◌, true, false, [], ◌∷◌, ℕ, ◌≤◌, arith, w64, SFits, to_z, of_z, to_z-of_z}
+use Rattle.std.proofs.Common.{Option, Ok}
+use Rattle.refusals.specs.Answer.{Answer}
 use Rattle.utils.specs.Signed.{code_def}
-use Rattle.utils.specs.declared.Code.{Code}
 use Rattle.registers.proofs.Numbers.{valid}
-use Rattle.forms.specs.declared.Wrote.{Wrote, TheVariants.Word}
 use Rattle.forms.specs.Layout.{build}
 use Rattle.forms.specs.Meaning.{bit_of, write_of}
 use Rattle.forms.proofs.Facts.{under, over}
@@ -19,11 +19,11 @@ use Rattle.memory_encoder.proofs.encode_store.Goals as goal
 
 module _ (i : StoreInstr) (fits : SFits w64 i.imm) where
   -- a compressed one: r is what a call answered of its parts, with the base b
-  same : {b : ℕ} {r : Wrote} → i.is_compressed ≡ true → b ≡ i.rs1.0 → r ≡ write_of stores meaning (mk i.rs2.0 b (to_z w64 (of_z w64 i.imm)) i.len true) → r ≡ write_of stores meaning i
+  same : {b : ℕ} {r : Answer ℕ} → i.is_compressed ≡ true → b ≡ i.rs1.0 → r ≡ write_of stores meaning (mk i.rs2.0 b (to_z w64 (of_z w64 i.imm)) i.len true) → r ≡ write_of stores meaning i
   same short e p = p ∙ (λ j. write_of stores meaning (mk i.rs2.0 (e j) (to_z-of_z w64 i.imm fits j) i.len (sym short j)))
 
   -- one of 32 bits: f is its funct3, c what `code_of` found, k the arm, r its answer
-  by_code : {f : ℕ} {c k : Code} {r : Wrote} → (i.rs2.0 ≤ 31) × (i.rs1.0 ≤ 31) → i.is_compressed ≡ false → f ≡ size_of i.len
+  by_code : {f : ℕ} {c k : Option ℕ} {r : Answer ℕ} → (i.rs2.0 ≤ 31) × (i.rs1.0 ≤ 31) → i.is_compressed ≡ false → f ≡ size_of i.len
       → c ≡ code_def 2048 (to_z w64 (of_z w64 i.imm)) → c ≡ k → r ≡ put_code (λ n. build store (operands i.rs2.0 i.rs1.0 f n)) k → r ≡ write_of stores meaning i
   by_code low long e d q p =
       found store _ i.imm fits (d ∙ all_codes store (λ n. refl) (to_z w64 (of_z w64 i.imm))) q (rw e at p)
@@ -52,7 +52,7 @@ unfolding encode_store_def
 returns-in-Is c =
     let i = c.args.store in
     by_code i (record { sfits = omega arith }) (valid i.rs2.0 i.rs1.0 (sym c.if-not-are_valid.ensures)) c.if-store.false c.size_of-func3.ensures
-    c.code_of.ensures c.in-Is.is (ap Word c.store_word.ensures)
+    c.code_of.ensures c.in-Is.is (ap Ok c.store_word.ensures)
 
 pub returns-in-Out : goal.returns-in-Out
 unfolding encode_store_def
