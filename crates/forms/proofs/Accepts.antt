@@ -3,12 +3,13 @@ use Rattle.utils.proofs.Prelude.{◌≡◌, refl, subst, ◌⊎◌, inl, inr, Bo
 use Rattle.std.proofs.Common.{Ok, Err}
 use Rattle.refusals.specs.Answer.{Answer}
 use Rattle.utils.proofs.Prelude.{lt_of_lt_of_le, pow_mono, eqb-true, leb-true}
+use Rattle.refusals.specs.declared.Refusal.{Refusal}
 use Rattle.forms.specs.Layout.{Layout, const, take, given, avoid, Operand, imm, rd, rs1, rs2, funct, csr, short, all, every, bits, width, size, matches, spares, read, readable}
 use Rattle.forms.specs.Sound.{first, spread, of_word, clash, sound}
 use Rattle.forms.specs.Meaning.{Meaning, Every, read_as, read_of}
 use Rattle.utils.proofs.Tests.{both, on}
 use Rattle.forms.proofs.Laws.{read_lt, every_at}
-use Rattle.forms.proofs.Answer.{no_value}
+use Rattle.refusals.proofs.Answers.{no_value}
 use Rattle.forms.proofs.Sound.{first_all, found_good, word_has, word_once}
 use Rattle.forms.proofs.Facts.{Fact, Known, tells, tells_has, field_is, shuts, shut}
 
@@ -16,7 +17,7 @@ use Rattle.forms.proofs.Facts.{Fact, Known, tells, tells_has, field_is, shuts, s
 pub by_layouts : {I : Type 0} (S : Meaning I) (w : ℕ) (P : I → Type 0) (T : List Layout) → Every (λ L. readable w L ≡ true → P (S.make (read L w))) T → (i : I) → read_of T S w ≡ Ok i → P i
 by_layouts {I} S w P T h i = go T (S.reading_refusal w) h
   where
-    go : (T : List Layout) (n : ℕ) → Every (λ L. readable w L ≡ true → P (S.make (read L w))) T → read_as S w (first (readable w) T n) ≡ Ok i → P i
+    go : (T : List Layout) (n : Refusal) → Every (λ L. readable w L ≡ true → P (S.make (read L w))) T → read_as S w (first (readable w) T n) ≡ Ok i → P i
     go [] n h = λ q. no_value n i q
     go (L ∷ T) n h =
         on (λ (k : Answer Layout). read_as S w k ≡ Ok i → P i) (readable w L)
@@ -68,7 +69,7 @@ Words (L ∷ T) w = (Fixed L w × (spares L (read L w) ≡ true)) ⊎ Words T w
 pub accepted : {I : Type 0} (T : List Layout) (S : Meaning I) (w : ℕ) (i : I) → read_of T S w ≡ Ok i → Words T w
 accepted {I} T S w i = go T (S.reading_refusal w)
   where
-    go : (T : List Layout) (n : ℕ) → read_as S w (first (readable w) T n) ≡ Ok i → Words T w
+    go : (T : List Layout) (n : Refusal) → read_as S w (first (readable w) T n) ≡ Ok i → Words T w
     go [] n = λ q. no_value n i q
     go (L ∷ T) n =
         on (λ (k : Answer Layout). read_as S w k ≡ Ok i → Words (L ∷ T) w) (readable w L)
@@ -78,7 +79,7 @@ accepted {I} T S w i = go T (S.reading_refusal w)
 abbrev pub Unread : ℕ → List Layout → Type 0
 Unread w T = Every (λ L. readable w L ≡ true → ⊥) T
 
-pub passed : (w : ℕ) (T U : List Layout) (n : ℕ) → Unread w T → first (readable w) (T ++ U) n ≡ first (readable w) U n
+pub passed : (w : ℕ) (T U : List Layout) (n : Refusal) → Unread w T → first (readable w) (T ++ U) n ≡ first (readable w) U n
 passed w [] U n h = refl
 passed w (L ∷ T) U n h = on (λ (k : Answer Layout). k ≡ first (readable w) U n) (readable w L) (λ e. absurd (h.0 e)) (λ _. passed w T U n h.1)
 

@@ -2,17 +2,15 @@
 use Rattle.utils.proofs.Prelude.{◌≡◌, refl, sym, ◌∙◌, ℕ, ◌<◌, arith}
 use Rattle.std.proofs.Common.{Ok, Err}
 use Rattle.refusals.specs.Answer.{Answer}
+use Rattle.refusals.proofs.Answers.{no_value}
 use Rattle.forms.specs.Demand3.{Refuses, NoWord, OnlyWord, RefusedExactly}
 
-pub no_word : {X : Type 0} (n : ℕ) {w : ℕ} → Err n ≡ Ok w → X
-no_word n q = let z : ◌≡◌ {A = ℕ} 0 1 = cc in absurd (omega arith)
-
-same_word : (x y : ℕ) → Ok x ≡ Ok y → x ≡ y
+same_word : (x y : ℕ) → ◌≡◌ {A = Answer ℕ} (Ok x) (Ok y) → x ≡ y
 same_word x y e = cc
 
 module _ (reads : ℕ → Type 0) (room : ℕ) (r : (Answer ℕ)) (back : (x : ℕ) → x < room → reads x → r ≡ Ok x) (forth : (x : ℕ) → r ≡ Ok x → (x < room) × reads x) where
   pub refused_by : RefusedExactly reads room r
-  refused_by = (λ no x h e. no_word no.0 (sym no.1 ∙ back x h e), go r refl)
+  refused_by = (λ no x h e. no_value no.0 x (sym no.1 ∙ back x h e), go r refl)
     where
       go : (a : (Answer ℕ)) → r ≡ a → NoWord reads room → Refuses r
       go (Ok x) e none = let t = forth x e in absurd (none x t.0 t.1)

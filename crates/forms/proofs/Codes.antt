@@ -6,10 +6,11 @@ use Rattle.utils.proofs.Signed.{by_test, signed_twos}
 use Rattle.forms.specs.Layout.{Layout, imm, holds}
 use Rattle.forms.specs.Meaning.{within, put, bit_of}
 use Rattle.utils.proofs.Tests.{on}
-use Rattle.forms.proofs.AnyReader.{no_word}
+use Rattle.refusals.proofs.Answers.{no_value}
+use Rattle.refusals.specs.declared.Refusal.TheVariants as refusal
 
 not_out : {X : Type 0} (n : ℕ) → None ≡ Some n → X
-not_out n q = let z : ◌≡◌ {A = ℕ} 0 1 = cc in absurd (omega arith)
+not_out n q = let z : ⊥ = cc in absurd z
 
 -- the layout holds a code that is within it
 pub within_is : (L : Layout) (k : (Option ℕ)) (n : ℕ) → within L k ≡ Some n → (k ≡ Some n) × (holds L imm n ≡ true)
@@ -21,7 +22,7 @@ within_is L None n = λ q. not_out n q
 -- a word that was put has an immediate with a code
 pub put_is : (k : (Option ℕ)) (w x : ℕ) → put k w ≡ Ok x → ((n : ℕ) × (k ≡ Some n)) × (w ≡ x)
 put_is (Some n) w x q = ((n, refl), cc)
-put_is None w x q = no_word 10 q
+put_is None w x q = no_value refusal.Immediate x q
 
 -- ---- a code of an integer
 code_mag : (H : ℕ) (z : ℤ) (n : ℕ) → code_def H z ≡ Some n → (mag z < H) × (n ≡ twos H z)

@@ -4,6 +4,7 @@ use Rattle.utils.proofs.Prelude.{◌≡◌, refl, sym, ap, ◌∙◌, subst, Boo
 use Rattle.std.proofs.Common.{Some, None, Ok, Err}
 use Rattle.refusals.specs.Answer.{Answer}
 use Rattle.utils.proofs.Prelude.{lt_of_lt_of_le, get_or, eqb-true, ltb-true, leb-true}
+use Rattle.refusals.specs.declared.Refusal.{Refusal}
 use Rattle.forms.specs.Layout.{Layout, Operand, imm, rd, rs1, rs2, funct, csr, short, all, good, every}
 use Rattle.forms.specs.Layout.{Piece, piece, from, lit, pieces, place, gather, width, size, read, build, readable, chosen, holds}
 use Rattle.forms.specs.Sound.{first, distinct, sound}
@@ -11,9 +12,9 @@ use Rattle.forms.specs.Meaning.{Meaning, FaithfulBelow, Agrees, Every, Faithful,
 use Rattle.forms.specs.Demand3.{OnlyWord, RefusedExactly}
 use Rattle.utils.proofs.Tests.{both, either, on}
 use Rattle.forms.proofs.Laws.{every_at, read_lt, read_holds, readable_chosen, chosen_back, chosen_readable, build_lt}
-use Rattle.forms.proofs.Answer.{no_value}
+use Rattle.refusals.proofs.Answers.{no_value}
 use Rattle.forms.proofs.Sound.{same_value, first_true, found_good, same_layout, read_back, write_back}
-use Rattle.forms.proofs.AnyReader.{no_word, refused_by, only_by}
+use Rattle.forms.proofs.AnyReader.{refused_by, only_by}
 use Rattle.forms.proofs.Codes.{within_is, put_is}
 
 -- ---- a Meaning within limits is faithful
@@ -53,7 +54,7 @@ module _ {I : Type 0} (S : Meaning I) (limit : Operand → ℕ) (s : FaithfulBel
   by_limits T ok e = record { layouts = all_agree T (both (all good T) (distinct T) ok).0 e; code_ops = s.code_ops; make_ops = s.make_ops }
 
 -- ---- what a faithful Meaning gives
-every_layout : (P : Layout → Type 0) (p : Layout → Bool) (T : List Layout) (n : ℕ) (L : Layout) → Every P T → first p T n ≡ Ok L → P L
+every_layout : (P : Layout → Type 0) (p : Layout → Bool) (T : List Layout) (n : Refusal) (L : Layout) → Every P T → first p T n ≡ Ok L → P L
 every_layout P p [] n L h = λ e. no_value n L e
 every_layout P p (M ∷ T) n L h =
     on (λ (k : Answer Layout). k ≡ Ok L → P L) (p M) (λ _ q. subst P (same_value M L q) h.0) (λ _ q. every_layout P p T n L h.1 q)
@@ -64,7 +65,7 @@ same_at f g e =
     elim [ imm ↦ at 0 | rd ↦ at 1 | rs1 ↦ at 2 | rs2 ↦ at 3 | funct ↦ at 4 | csr ↦ at 5 | short ↦ at 6 ]
 
 module _ {I : Type 0} (T : List Layout) (S : Meaning I) (ok : sound T ≡ true) (s : Faithful T S) where
-  agrees_of : (p : Layout → Bool) (n : ℕ) (L : Layout) → first p T n ≡ Ok L → (w : ℕ) → Agrees S L w
+  agrees_of : (p : Layout → Bool) (n : Refusal) (L : Layout) → first p T n ≡ Ok L → (w : ℕ) → Agrees S L w
   agrees_of p n L e = every_layout (λ M. (w : ℕ) → Agrees S M w) p T n L s.layouts e
 
   -- what is read of a word is written as the word
@@ -115,7 +116,7 @@ module _ {I : Type 0} (T : List Layout) (S : Meaning I) (ok : sound T ≡ true) 
           sym (agrees_of (chosen (S.ops i)) (S.writing_refusal i) L e (build L (S.ops i))).room ∙ ap (λ (x : I). room_of (S.is_short x)) same in
           subst (λ (x : ℕ). (x < room_of (S.is_short i)) × (read_of T S x ≡ Ok i)) p.1
           (subst (λ (k : ℕ). build L (S.ops i) < k) room t.1.1, ap (read_as S (build L (S.ops i))) t.0 ∙ ap Ok same)
-      go (Err n) e q = no_word n q
+      go (Err n) e q = no_value n w q
 
   -- writing an instruction is refused exactly when no word of its room is read as the instruction
   pub refused_exactly : (i : I) → RefusedExactly (λ x. read_of T S x ≡ Ok i) (room_of (S.is_short i)) (write_of T S i)

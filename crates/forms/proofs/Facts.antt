@@ -6,6 +6,7 @@ use Rattle.utils.proofs.Prelude.{mod-eq_of_lt, eq-eqb, ne_eqb, eqb-true, ltb-tru
 use native.Mathlib.Nat.{mod-one}
 use lib.Pow.{mod-pow-add, shr-shr}
 use Rattle.utils.proofs.Tests.{both, join, either, on}
+use Rattle.refusals.specs.declared.Refusal.{Refusal}
 use Rattle.forms.specs.Layout.{Layout, const, take, given, avoid, Operand, all, bits, width, matches, spares, Piece, piece, from, lit, pieces, gather, read, readable, constants, good}
 use Rattle.forms.specs.Sound.{first, any, Bit, bit, spread, of_word, clash}
 use Rattle.forms.specs.Meaning.{Meaning, read_as, read_of}
@@ -234,7 +235,7 @@ fits fs L = not (shuts fs L)
 
 -- s L says that a good form L does not pass p, and o L that it does
 module _ (p s o : Layout → Bool) (no : (L : Layout) → s L ≡ true → p L ≡ true → ⊥) (yes : (L : Layout) → good L ≡ true → o L ≡ true → p L ≡ true) where
-  pub settled : (T : List Layout) (n : ℕ) → all good T ≡ true → all (λ L. s L || o L) T ≡ true → first p T n ≡ first (λ L. not (s L)) T n
+  pub settled : (T : List Layout) (n : Refusal) → all good T ≡ true → all (λ L. s L || o L) T ≡ true → first p T n ≡ first (λ L. not (s L)) T n
   settled [] n g e = refl
   settled (L ∷ T) n g e =
       let a = both (all good T) (good L) g in
@@ -248,40 +249,40 @@ module _ (p s o : Layout → Bool) (no : (L : Layout) → s L ≡ true → p L �
       go false a true b e g rest = refl
       go false a false b e g rest = absurd (false≢true (sym b ∙ yes L g e))
 
--- ---- refusals of a word that has no form, by its fields: the first that the word has gives the number
+-- ---- refusals of a word that has no form, by its fields: the first that the word has gives the refusal
 pub data Reason : Type 0 where
-  reason : ℕ → ℕ → ℕ → ℕ → Reason  -- reason k n v m: m, where the n bits from bit k on are v
+  reason : ℕ → ℕ → ℕ → Refusal → Reason  -- reason k n v m: m, where the n bits from bit k on are v
 
-abbrev pub number_by : List Reason → ℕ → ℕ → ℕ
-number_by [] last w = last
-number_by (reason k n v m ∷ rs) last w = cond (eqb (bits w k n) v) m (number_by rs last w)
+abbrev pub refusal_by : List Reason → Refusal → ℕ → Refusal
+refusal_by [] last w = last
+refusal_by (reason k n v m ∷ rs) last w = cond (eqb (bits w k n) v) m (refusal_by rs last w)
 
-abbrev pub number_known : List Fact → List Reason → ℕ → ℕ
-number_known fs [] last = last
-number_known fs (reason k n v m ∷ rs) last = cond (denies fs (spread n k v [])) (number_known fs rs last) m
+abbrev pub refusal_known : List Fact → List Reason → Refusal → Refusal
+refusal_known fs [] last = last
+refusal_known fs (reason k n v m ∷ rs) last = cond (denies fs (spread n k v [])) (refusal_known fs rs last) m
 
--- the number is settled: a reason that is not denied is told, and no later one is asked
+-- the refusal is settled: a reason that is not denied is told, and no later one is asked
 abbrev pub clears : List Fact → List Reason → Bool
 clears fs [] = true
 clears fs (reason k n v m ∷ rs) = (denies fs (spread n k v []) && clears fs rs) || (ltb v (2 ^ n) && tells (of_facts fs) (spread n k v []))
 
-number_known_lem : (w : ℕ) (fs : List Fact) → Known w fs → (rs : List Reason) (last : ℕ) → clears fs rs ≡ true → number_by rs last w ≡ number_known fs rs last
-number_known_lem w fs h [] last e = refl
-number_known_lem w fs h (reason k n v m ∷ rs) last e =
+refusal_known_lem : (w : ℕ) (fs : List Fact) → Known w fs → (rs : List Reason) (last : Refusal) → clears fs rs ≡ true → refusal_by rs last w ≡ refusal_known fs rs last
+refusal_known_lem w fs h [] last e = refl
+refusal_known_lem w fs h (reason k n v m ∷ rs) last e =
     either (denies fs (spread n k v []) && clears fs rs) (ltb v (2 ^ n) && tells (of_facts fs) (spread n k v [])) e
     (λ q.
     let t = both (denies fs (spread n k v [])) (clears fs rs) q in
-    (λ j. cond (ne_eqb (bits w k n) v (is_denied w fs h k n v t.0) j) m (number_known_lem w fs h rs last t.1 j)) ∙ ap (λ (b : Bool). cond b (number_known fs rs last) m) (sym t.0))
+    (λ j. cond (ne_eqb (bits w k n) v (is_denied w fs h k n v t.0) j) m (refusal_known_lem w fs h rs last t.1 j)) ∙ ap (λ (b : Bool). cond b (refusal_known fs rs last) m) (sym t.0))
     (λ q.
     let yes : bits w k n ≡ v = is_told w fs h k n v q in
-    ap (λ (b : Bool). cond b m (number_by rs last w)) (eq-eqb (bits w k n) v yes)
-    ∙ on (λ (x : ℕ). m ≡ x) (denies fs (spread n k v [])) (λ d. absurd (is_denied w fs h k n v d yes)) (λ _. refl))
+    ap (λ (b : Bool). cond b m (refusal_by rs last w)) (eq-eqb (bits w k n) v yes)
+    ∙ on (λ (x : Refusal). m ≡ x) (denies fs (spread n k v [])) (λ d. absurd (is_denied w fs h k n v d yes)) (λ _. refl))
 
 -- ---- the law: what is known of a word gives its instruction, or its refusal
-module _ {I : Type 0} (T : List Layout) (S : Meaning I) (ok : all good T ≡ true) (rs : List Reason) (last : ℕ) (reading_refusal : (w : ℕ) → S.reading_refusal w ≡ number_by rs last w) where
-  pub by_facts : (w : ℕ) (fs : List Fact) → Known w fs → (settles fs T && clears fs rs) ≡ true → read_of T S w ≡ read_as S w (first (fits fs) T (number_known fs rs last))
-  by_facts w fs h e =
-      let t = both (settles fs T) (clears fs rs) e in
-      let number = reading_refusal w ∙ number_known_lem w fs h rs last t.1 in
-      let by_test = settled (readable w) (shuts fs) (opens fs) (shut w fs h) (λ L g. opened w fs h L (constant L g)) T (number_known fs rs last) ok t.0 in
-      ap (read_as S w) (ap (first (readable w) T) number ∙ by_test)
+module _ {I : Type 0} (T : List Layout) (S : Meaning I) (ok : all good T ≡ true) (rs : List Reason) (last : Refusal) (reading_refusal : (w : ℕ) → S.reading_refusal w ≡ refusal_by rs last w) where
+  pub by_facts : (w : ℕ) (fs : List Fact) → Known w fs → (settles fs T && clears fs rs) ≡ true → read_of T S w ≡ read_as S w (first (fits fs) T (refusal_known fs rs last))
+  by_facts w fs h q =
+      let t = both (settles fs T) (clears fs rs) q in
+      let e = reading_refusal w ∙ refusal_known_lem w fs h rs last t.1 in
+      let by_test = settled (readable w) (shuts fs) (opens fs) (shut w fs h) (λ L g. opened w fs h L (constant L g)) T (refusal_known fs rs last) ok t.0 in
+      ap (read_as S w) (ap (first (readable w) T) e ∙ by_test)

@@ -1,6 +1,5 @@
 pub mod Tests
 pub mod Laws
-pub mod Answer
 pub mod Sound
 pub mod Shifts
 pub mod Facts

@@ -5,31 +5,32 @@ use Rattle.refusals.specs.Answer.{Answer}
 use Rattle.utils.proofs.Prelude.{eqb-true, eqb-false, not-true}
 use native.Mathlib.Nat.{div-one}
 use lib.Pow.{field, shr-shr, mod-mod-pow}
+use Rattle.refusals.specs.declared.Refusal.{Refusal}
 use Rattle.forms.specs.Layout.{Layout, const, take, given, avoid, Operand, imm, others, all, bits, width, matches, build, read, spares}
 use Rattle.forms.specs.Layout.{Piece, piece, from, lit, pieces, holds, readable, chosen, good}
 use Rattle.forms.specs.Sound.{first, any, Bit, bit, spread, of_word, of_pieces, differs, clash, apart, distinct, sound}
 use Rattle.utils.proofs.Tests.{both, either, on}
-use Rattle.forms.proofs.Answer.{no_value}
+use Rattle.refusals.proofs.Answers.{no_value}
 use Rattle.forms.proofs.Tests.{not_any}
 use Rattle.forms.proofs.Laws.{Held, holds_true, read_build, read_holds, build_lt, readable_chosen, chosen_back, chosen_readable}
 
 -- ---- the first that passes
-pub same_value : (L M : Layout) → Ok L ≡ Ok M → L ≡ M
+pub same_value : (L M : Layout) → ◌≡◌ {A = Answer Layout} (Ok L) (Ok M) → L ≡ M
 same_value L M e = cc
 
-pub first_true : (p : Layout → Bool) (T : List Layout) (n : ℕ) (L : Layout) → first p T n ≡ Ok L → p L ≡ true
+pub first_true : (p : Layout → Bool) (T : List Layout) (n : Refusal) (L : Layout) → first p T n ≡ Ok L → p L ≡ true
 first_true p [] n L = λ q. no_value n L q
 first_true p (M ∷ T) n L =
     on (λ (k : Answer Layout). k ≡ Ok L → p L ≡ true) (p M) (λ e q. subst (λ (N : Layout). p N ≡ true) (same_value M L q) e) (λ _ q. first_true p T n L q)
 
-pub first_all : (f p : Layout → Bool) (T : List Layout) (n : ℕ) (L : Layout) → all f T ≡ true → first p T n ≡ Ok L → f L ≡ true
+pub first_all : (f p : Layout → Bool) (T : List Layout) (n : Refusal) (L : Layout) → all f T ≡ true → first p T n ≡ Ok L → f L ≡ true
 first_all f p [] n L e = λ q. no_value n L q
 first_all f p (M ∷ T) n L e =
     let t = both (all f T) (f M) e in
     on (λ (k : Answer Layout). k ≡ Ok L → f L ≡ true) (p M) (λ _ q. subst (λ (N : Layout). f N ≡ true) (same_value M L q) t.1) (λ _ q. first_all f p T n L t.0 q)
 
 -- what one test finds another finds, where it excludes all else
-first_too : (p q : Layout → Bool) (T : List Layout) (n m : ℕ) (L : Layout) → ((M : Layout) → apart M L ≡ true → q M ≡ true → ⊥) → distinct T ≡ true
+first_too : (p q : Layout → Bool) (T : List Layout) (n m : Refusal) (L : Layout) → ((M : Layout) → apart M L ≡ true → q M ≡ true → ⊥) → distinct T ≡ true
     → first p T n ≡ Ok L → q L ≡ true → first q T m ≡ Ok L
 first_too p q [] n m L ex e = λ f. no_value n L f
 first_too p q (M ∷ T) n m L ex e =
@@ -39,7 +40,7 @@ first_too p q (M ∷ T) n m L ex e =
     (λ _ f h. on (λ (k : Answer Layout). k ≡ Ok L) (q M) (λ g. absurd (ex M (first_all (apart M) p T n L t.0 f) g)) (λ _. first_too p q T n m L ex t.1 f h))
 
 -- none passes
-pub first_none : (p : Layout → Bool) (T : List Layout) (n : ℕ) → any p T ≡ false → first p T n ≡ Err n
+pub first_none : (p : Layout → Bool) (T : List Layout) (n : Refusal) → any p T ≡ false → first p T n ≡ Err n
 first_none p [] n = λ e. refl
 first_none p (L ∷ T) n = go (p L) (first_none p T n)
   where
@@ -126,11 +127,11 @@ module _ (T : List Layout) (ok : sound T ≡ true) where
   sound_parts : (all good T ≡ true) × (distinct T ≡ true)
   sound_parts = both (all good T) (distinct T) ok
 
-  pub found_good : (p : Layout → Bool) (n : ℕ) (L : Layout) → first p T n ≡ Ok L → good L ≡ true
+  pub found_good : (p : Layout → Bool) (n : Refusal) (L : Layout) → first p T n ≡ Ok L → good L ≡ true
   found_good p n L e = first_all good p T n L sound_parts.0 e
 
   -- a word's layout is its operands' layout, and they are written as the word
-  pub read_back : (w n m : ℕ) (L : Layout) → first (readable w) T n ≡ Ok L → w < 2 ^ width L
+  pub read_back : (w : ℕ) (n m : Refusal) (L : Layout) → first (readable w) T n ≡ Ok L → w < 2 ^ width L
       → (first (chosen (read L w)) T m ≡ Ok L) × ((holds L imm (read L w imm) ≡ true) × (build L (read L w) ≡ w))
   read_back w n m L e h =
       let g = found_good (readable w) n L e in
@@ -141,7 +142,7 @@ module _ (T : List Layout) (ok : sound T ≡ true) where
       )
 
   -- operands' layout is that of the word in which they are written, and they are read of it
-  pub write_back : (env : Operand → ℕ) (n m : ℕ) (L : Layout) → first (chosen env) T n ≡ Ok L → holds L imm (env imm) ≡ true
+  pub write_back : (env : Operand → ℕ) (n m : Refusal) (L : Layout) → first (chosen env) T n ≡ Ok L → holds L imm (env imm) ≡ true
       → (first (readable (build L env)) T m ≡ Ok L) × ((read L (build L env) ≡ env) × (build L env < 2 ^ width L))
   write_back env n m L e i =
       let g = found_good (chosen env) n L e in
@@ -152,5 +153,5 @@ module _ (T : List Layout) (ok : sound T ≡ true) where
       )
 
   -- a form that reads a word reads every word of the form
-  pub same_layout : (w v n m : ℕ) (L : Layout) → first (readable w) T n ≡ Ok L → readable v L ≡ true → first (readable v) T m ≡ Ok L
+  pub same_layout : (w v : ℕ) (n m : Refusal) (L : Layout) → first (readable w) T n ≡ Ok L → readable v L ≡ true → first (readable v) T m ≡ Ok L
   same_layout w v n m L e r = first_too (readable w) (readable v) T n m L (λ M a q. readable_once v L M r a q) sound_parts.1 e r

@@ -5,10 +5,11 @@
 use Rattle.std.specs.Prelude.{ℕ, ◌<◌, ◌≡◌, ◌↔◌}
 use Rattle.std.specs.Prelude.{Err}
 use Rattle.refusals.specs.Answer.{Answer}
+use Rattle.refusals.specs.declared.Refusal.{Refusal}
 
 -- the answer of writing is a refusal, whatever its number
 abbrev pub Refuses : Answer ℕ → Type 0
-Refuses r = (n : ℕ) × (r ≡ Err n)
+Refuses r = (e : Refusal) × (r ≡ Err e)
 
 -- no word below `room` is read as the value; `reads x` says that the word x is
 abbrev pub NoWord : (ℕ → Type 0) → ℕ → Type 0

@@ -3,6 +3,7 @@
 use Rattle.std.specs.Prelude.{ℕ, ◌^◌, ◌<◌, ◌≡◌, Bool, true, false, ◌&&◌, ◌||◌, cond, List, [], ◌∷◌, map, eqb, leb, ltb}
 use Rattle.std.specs.Prelude.{Option, Some, None, Ok, Err}
 use Rattle.refusals.specs.Answer.{Answer}
+use Rattle.refusals.specs.declared.Refusal.{Refusal}
 use Rattle.refusals.specs.declared.Refusal.TheVariants as refusal
 use Rattle.forms.specs.Layout.{Layout, Operand, imm, short, others, all, every, Piece, piece, from, lit, pieces, size, width, read, build, readable, chosen, holds}
 use Rattle.forms.specs.Sound.{first}
@@ -12,8 +13,8 @@ pub record Meaning (I : Type 0) : Type 0 where
   pub ops : I → Operand → ℕ  -- the operands of an instruction
   pub code : I → (Option ℕ)  -- of its immediate, or out of range
   pub is_short : I → Bool  -- it is compressed
-  pub reading_refusal : ℕ → ℕ  -- the refusal of a word that has no layout
-  pub writing_refusal : I → ℕ  -- the refusal of an instruction that has none
+  pub reading_refusal : ℕ → Refusal  -- the refusal of a word that has no layout
+  pub writing_refusal : I → Refusal  -- the refusal of an instruction that has none
 
 -- an instruction's words: below 2^16 where it is compressed, below 2^32 where not
 abbrev pub room_of : Bool → ℕ
@@ -27,7 +28,7 @@ bit_of b = cond b 1 0
 -- ---- reading
 abbrev pub read_as : {I : Type 0} → Meaning I → ℕ → Answer Layout → Answer I
 read_as S w (Ok L) = Ok (S.make (read L w))
-read_as S w (Err n) = Err n
+read_as S w (Err e) = Err e
 
 -- a word as an instruction, or why it is refused
 abbrev pub read_of : {I : Type 0} → List Layout → Meaning I → ℕ → Answer I
@@ -46,7 +47,7 @@ put None w = Err refusal.Immediate
 
 abbrev pub write_as : {I : Type 0} → Meaning I → I → Answer Layout → Answer ℕ
 write_as S i (Ok L) = put (within L (S.code i)) (build L (S.ops i))
-write_as S i (Err n) = Err n
+write_as S i (Err e) = Err e
 
 -- an instruction as a word, or why it is refused
 abbrev pub write_of : {I : Type 0} → List Layout → Meaning I → I → Answer ℕ

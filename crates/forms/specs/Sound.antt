@@ -3,12 +3,13 @@
 use Rattle.std.specs.Prelude.{ℕ, zero, suc, ◌+◌, Bool, true, false, ◌&&◌, ◌||◌, not, cond, List, [], ◌∷◌, eqb}
 use Rattle.std.specs.Prelude.{Ok, Err}
 use Rattle.refusals.specs.Answer.{Answer}
+use Rattle.refusals.specs.declared.Refusal.{Refusal}
 use Rattle.forms.specs.Layout.{Layout, const, take, given, avoid, others, all, bits, width, good, Piece, piece, from, lit, pieces}
 
--- the first that passes, or n
-abbrev pub first : (Layout → Bool) → List Layout → ℕ → Answer Layout
-first p [] n = Err n
-first p (L ∷ T) n = cond (p L) (Ok L) (first p T n)
+-- the first that passes, or the refusal
+abbrev pub first : (Layout → Bool) → List Layout → Refusal → Answer Layout
+first p [] e = Err e
+first p (L ∷ T) e = cond (p L) (Ok L) (first p T e)
 
 abbrev pub any : {A : Type 0} → (A → Bool) → List A → Bool
 any p [] = false

@@ -1,4 +1,2 @@
-// What a form of instruction is, and what follows for any table of forms. The theory is in specs/ and proofs/; the only
-// code is the answer that writing gives.
+// What a form of instruction is, and what follows for any table of forms. There is no code here: the theory is in specs/ and proofs/.
 #![tactic(auto)]
-

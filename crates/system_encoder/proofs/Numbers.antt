@@ -6,7 +6,7 @@ use Rattle.profiles.specs.declared.Profile.{Profile}
 use Rattle.csrs.specs.Gates.{available}
 use Rattle.forms.specs.Numbers.{OneOf}
 use Rattle.utils.proofs.Tests.{on}
-use Rattle.forms.proofs.Answer.{no_value}
+use Rattle.refusals.proofs.Answers.{no_value}
 use Rattle.forms.proofs.Numbers.{same_refusal}
 use Rattle.system_decoder.specs.declared.Shape.{Shape}
 use Rattle.system_decoder.specs.declared.Shape.TheVariants.{Wfi as wfi, Mret as mret, Sret as sret, Fence as fence, Access as access}

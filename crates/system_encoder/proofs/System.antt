@@ -13,7 +13,7 @@ use Rattle.forms.specs.Sound.{sound}
 use Rattle.forms.specs.Meaning.{Agrees, Every, Faithful, read_of, write_of}
 use Rattle.utils.proofs.Tests.{on}
 use Rattle.forms.proofs.Accepts.{room, roomy, made_of}
-use Rattle.forms.proofs.Answer.{no_value}
+use Rattle.refusals.proofs.Answers.{no_value}
 use Rattle.forms.proofs.Demand3
 use Rattle.system_decoder.specs.declared.CsrOp.{TheVariants.Write, TheVariants.Set, TheVariants.Clear}
 use Rattle.system_decoder.specs.declared.Fence.{TheVariants.Vma, TheVariants.Vvma, TheVariants.Gvma}
