@@ -13,11 +13,11 @@ clash : (b : Bool) → T b → b ≡ false → ⊥
 clash true t e = let z : ◌≡◌ {A = ℕ} 0 1 = cc in omega arith
 clash false t e = t
 
-pub here_at : (a : ℕ) (i : (Answer ℕ)) → here a i ≡ true → i ≡ Ok a
+pub here_at : (a : ℕ) (i : Answer ℕ) → here a i ≡ true → i ≡ Ok a
 here_at a (Ok b) e = ap Ok (eqb-true b a e)
 here_at a (Err n) e = cc
 
-pub at_here : (a : ℕ) (i : (Answer ℕ)) → i ≡ Ok a → here a i ≡ true
+pub at_here : (a : ℕ) (i : Answer ℕ) → i ≡ Ok a → here a i ≡ true
 at_here a i e = ap (here a) e ∙ eq-eqb a a refl
 
 -- ---- a rule that each address keeps, and lists in which no address comes twice
@@ -25,11 +25,11 @@ unfoldable pub keeps : (ℕ → Bool) → Answer ℕ → Bool
 keeps f (Ok b) = f b
 keeps f (Err n) = false
 
-pub kept : (f : ℕ → Bool) (a : ℕ) (i : (Answer ℕ)) → i ≡ Ok a → T (keeps f i) → T (f a)
+pub kept : (f : ℕ → Bool) (a : ℕ) (i : Answer ℕ) → i ≡ Ok a → T (keeps f i) → T (f a)
 unfolding keeps
-kept f a i e t = subst (λ (j : (Answer ℕ)). T (keeps f j)) e t
+kept f a i e t = subst (λ (j : Answer ℕ). T (keeps f j)) e t
 
-not_here : (f : ℕ → Bool) (a : ℕ) (i : (Answer ℕ)) → T (keeps f i) → f a ≡ false → here a i ≡ false
+not_here : (f : ℕ → Bool) (a : ℕ) (i : Answer ℕ) → T (keeps f i) → f a ≡ false → here a i ≡ false
 unfolding keeps
 not_here f a (Ok b) t e = ne_eqb b a (λ q. clash (f a) (subst (λ (n : ℕ). T (f n)) q t) e)
 not_here f a (Err n) t e = refl
@@ -39,7 +39,7 @@ apart (Ok a) (Ok b) = not (eqb a b)
 apart (Ok a) (Err n) = false
 apart (Err n) j = false
 
-apart_here : (a : ℕ) (i j : (Answer ℕ)) → T (apart i j) → j ≡ Ok a → here a i ≡ false
+apart_here : (a : ℕ) (i j : Answer ℕ) → T (apart i j) → j ≡ Ok a → here a i ≡ false
 unfolding apart
 apart_here a (Ok b) (Ok d) t e =
     let z : d ≡ a = cc in
@@ -47,13 +47,13 @@ apart_here a (Ok b) (Ok d) t e =
 apart_here a (Ok b) (Err n) t e = absurd t
 apart_here a (Err n) j t e = absurd t
 
-unfoldable pub distinct : {X : Type 0} → (X → (Answer ℕ)) → List X → Bool
+unfoldable pub distinct : {X : Type 0} → (X → Answer ℕ) → List X → Bool
 unfolding all apart
 distinct idx [] = true
 distinct idx (x ∷ xs) = all (λ y. apart (idx x) (idx y)) xs && distinct idx xs
 
 -- ---- finding
-module _ {X : Type 0} (idx : X → (Answer ℕ)) where
+module _ {X : Type 0} (idx : X → Answer ℕ) where
   -- what is found at an address has that address, and is a member
   pub found_at : (a : ℕ) (xs : List X) (x : X) → find idx a xs ≡ Some x → idx x ≡ Ok a
   found_at a [] x e = cc

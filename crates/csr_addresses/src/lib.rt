@@ -539,15 +539,10 @@ impl Csr {
             Csr::Seed => Ok(address::SEED),
 
             // Custom CSRs
-            Csr::Custom(addr) => {
-                if addr < address::CUSTOM0 {
-                    Err(Refusal::Csr)
-                } else if addr <= address::CUSTOM63 {
-                    Ok(addr)
-                } else {
-                    Err(Refusal::Csr)
-                }
-            }
+            Csr::Custom(addr) => match addr {
+                address::CUSTOM0..=address::CUSTOM63 => Ok(addr),
+                _ => Err(Refusal::Csr),
+            },
         }
     }
 }
