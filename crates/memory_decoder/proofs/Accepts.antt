@@ -1,5 +1,5 @@
 -- Which words are accepted as a load or a store, and that none is accepted as both. Assumes nothing.
-use Rattle.utils.proofs.Prelude.{◌≡◌, refl, ap, ℕ}
+use Rattle.utils.proofs.Prelude.{◌≡◌, refl, ℕ}
 use Rattle.std.proofs.Common.{Ok}
 use Rattle.profiles.specs.declared.Profile.{Profile}
 use Rattle.forms.specs.Meaning.{read_of}
@@ -11,24 +11,23 @@ use Rattle.memory_decoder.specs.Load.{load_def}
 use Rattle.memory_decoder.specs.Store.{store_def}
 use Rattle.memory_decoder.specs.declared.LoadInstr.{LoadInstr}
 use Rattle.memory_decoder.specs.declared.StoreInstr.{StoreInstr}
-use Rattle.memory_decoder.proofs.Reading.{loading, storing}
 
 -- ---- an answer that is an instruction, and what it was read of
 pub load_form : (p : Profile) (w : ℕ) (i : LoadInstr) → load_def p w ≡ Ok i → read_of loads Load.meaning w ≡ Ok i
 unfolding load_def
-load_form p w = loading.form (read_of loads Load.meaning w)
+load_form p w i e = e
 
 pub form_load : (p : Profile) (w : ℕ) (i : LoadInstr) → read_of loads Load.meaning w ≡ Ok i → load_def p w ≡ Ok i
 unfolding load_def
-form_load p w i e = ap Load.answered e
+form_load p w i e = e
 
 pub store_form : (p : Profile) (w : ℕ) (i : StoreInstr) → store_def p w ≡ Ok i → read_of stores Store.meaning w ≡ Ok i
 unfolding store_def
-store_form p w = storing.form (read_of stores Store.meaning w)
+store_form p w i e = e
 
 pub form_store : (p : Profile) (w : ℕ) (i : StoreInstr) → read_of stores Store.meaning w ≡ Ok i → store_def p w ≡ Ok i
 unfolding store_def
-form_store p w i e = ap Store.answered e
+form_store p w i e = e
 
 -- ---- the theorems
 -- a word that is accepted has, of some form of the table, every constant, and no operand that the form excludes
