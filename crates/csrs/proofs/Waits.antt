@@ -16,7 +16,8 @@ use Rattle.utils.proofs.Members.{Mem, left, right, mapped, within, all}
 use Rattle.csr_addresses.proofs.Find.{keeps, kept, found_at, found_in, hit}
 use Rattle.csr_addresses.proofs.Laws.{at_is, every, idx_once}
 use Rattle.csrs.specs.declared.Gate.{Gate, TheVariants.Always, TheVariants.MaskBit}
-use Rattle.csrs.specs.Gates.{Group, group, groups, Row, behind, rows_of, custom_row, row_idx, spot_def, gate_in, gate_def}
+use Rattle.csrs.specs.declared.Row.{Row}
+use Rattle.csrs.specs.Gates.{Group, group, groups, behind, rows_of, custom_row, row_idx, spot_def, gate_in, gate_def}
 use Rattle.csrs.proofs.Arms.{rows_distinct}
 use Rattle.csrs.proofs.Laws.{there, there_is, no_row}
 

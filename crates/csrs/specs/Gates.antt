@@ -4,6 +4,8 @@ use Rattle.std.specs.Prelude.{◌≡◌, Bool, true, false, List, [], ◌∷◌,
 use Rattle.std.specs.Prelude.{Option, Some, None, Result, Ok, Err}
 use Rattle.refusals.specs.Answer.{Answer}
 use Rattle.csrs.specs.declared.Absent.{Absent}
+use Rattle.csrs.specs.declared.Absent.TheVariants.{GateOff, NoSuch}
+use Rattle.csrs.specs.declared.Row.{Row}
 use Rattle.csr_addresses.specs.declared.Csr.{Csr}
 use Rattle.csr_addresses.specs.declared.Csr.TheVariants.{Mhartid, Mstatus, Misa, Mie, Mtvec, Mscratch, Mip, Mvendorid, Marchid, Mimpid, Pmpcfg, Pmpaddr}
 use Rattle.csr_addresses.specs.declared.Csr.TheVariants.{Mcycle, Minstret, Cycle, Time, Instret, Mhpmcounter, Mcountinhibit, Mhpmevent, Mcounteren}
@@ -64,10 +66,6 @@ groups =
     ∷ group Crypto ((Seed ∷ []) ∷ [])
     ∷ []
 
-pub record Row : Type 0 where
-  pub gate : Gate
-  pub csr : Csr
-
 abbrev pub behind : Gate → Csr → Row
 behind g c = record { gate = g; csr = c }
 
@@ -92,11 +90,11 @@ spot_def a = find row_idx a rows
 -- one that none does"
 abbrev pub gated_def : Bool → Csr → Result Csr Absent
 gated_def true c = Ok c
-gated_def false c = (Err GateOff)
+gated_def false c = Err GateOff
 
 abbrev pub answer : Profile → Option Row → Result Csr Absent
 answer p (Some r) = gated_def (allows_def p r.gate) r.csr
-answer p None = (Err NoSuch)
+answer p None = Err NoSuch
 
 unfoldable pub decode_csr_def : Profile → ℕ → Result Csr Absent
 decode_csr_def p a = answer p (spot_def a)
@@ -126,11 +124,6 @@ gate_in None = MaskBit 64
 abbrev pub gate_def : Answer ℕ → Gate
 gate_def (Ok a) = gate_in (spot_def a)
 gate_def (Err n) = MaskBit 64
-
--- what the look-up answers for an address
-abbrev pub gated_of : Option Row → Option Row
-gated_of (Some r) = HOLDS r.gate r.csr
-gated_of None = None
 
 -- the registers that have an address and no row
 abbrev pub nevers : List Csr

@@ -2,9 +2,9 @@
 #![tactic(auto)]
 
 ghost use Rattle.std.specs.Prelude.{◌≡◌, ℕ};
-ghost use Rattle.csr_addresses.specs.declared.Idx.TheVariants.{At};
+ghost use Rattle.refusals.specs.Answer.{Answer};
 ghost use Rattle.csr_addresses.specs.Address.{idx_def};
-ghost use Rattle.csrs.specs.Gates.{allows_def, gate_def, spot_def, gated_of, decode_csr_def, available};
+ghost use Rattle.csrs.specs.Gates.{allows_def, gate_def, spot_def, decode_csr_def, available};
 ghost use Rattle.csrs.specs.Count.{count_def};
 
 use csr_addresses::{Csr, address};
@@ -23,6 +23,22 @@ pub enum Gate {
     Vector,
     Crypto,
     MaskBit(usize),
+}
+
+// What the look-up has at an address: a register, and what it waits for.
+#[derive(Clone, Copy)]
+struct Row {
+    gate: Gate,
+    csr: Csr,
+}
+
+// Why a profile has no register at an address.
+#[derive(Clone, Copy)]
+pub enum Absent {
+    // Some profile has one there
+    GateOff,
+    // No profile has
+    NoSuch,
 }
 
 // Whether the profile has what the gate asks.
@@ -46,7 +62,7 @@ fn allows(ctx: Profile, gate: Gate) -> bool
 // What a register that has an address waits for, in the order of the table of specs/Gates. Every register is named: one that is
 // left out is an error, and never an open gate.
 fn gate_of(register: Csr) -> Gate
-    requires { (a : ℕ) × (idx_def register ≡ At a) }
+    requires { (a : ℕ) × (idx_def register ≡ Ok a) }
     ensures { result ≡ gate_def (idx_def register) }
 {
     match register {
@@ -82,7 +98,7 @@ fn gate_of(register: Csr) -> Gate
 // The look-up by address, which may be any number. It takes no profile, so that flags are only read where a gate asks; and
 // `gate_of` has no other caller, so that the compiler merges it into the arms.
 fn gated_at(csr: usize) -> Option<Row>
-    ensures { result ≡ gated_of (spot_def csr) }
+    ensures { result ≡ spot_def csr }
 {
     let found = match csr {
         address::MSTATUS => Csr::Mstatus,
@@ -188,22 +204,22 @@ fn gated_at(csr: usize) -> Option<Row>
         address::SEED => Csr::Seed,
         _ => return None,
     };
-    Gated::Holds(gate_of(found), found)
+    Some(Row {
+        gate: gate_of(found),
+        csr: found,
+    })
 }
 
 // The register at an address, which may be any number, if the profile makes it available, or why there is none.
+#[tactic(auto, unfolding(crate::specs::Gates::decode_csr_def))]
 pub fn decode_csr(ctx: Profile, csr: usize) -> Result<Csr, Absent>
     ensures { result ≡ decode_csr_def ctx csr }
 {
-    match gated_at(csr) {
-        Gated::Holds(gate, found) => {
-            if allows(ctx, gate) {
-                Ok(found)
-            } else {
-                Err(Absent::GateOff)
-            }
-        }
-        None => Err(Absent::NoSuch),
+    let row = gated_at(csr).ok_or(Absent::NoSuch)?;
+    if allows(ctx, row.gate) {
+        Ok(row.csr)
+    } else {
+        Err(Absent::GateOff)
     }
 }
 
@@ -211,7 +227,6 @@ pub fn decode_csr(ctx: Profile, csr: usize) -> Result<Csr, Absent>
 pub fn count(ctx: Profile) -> u32
     ensures { result ≡ count_def ctx }
 {
-    let custom = ctx.custom;
     90 + profiles::weight(ctx.has_zicntr, 5)
         + profiles::weight(ctx.has_zihpm_extension, 58)
         + profiles::weight(ctx.has_tee_extension, 1)
@@ -220,16 +235,14 @@ pub fn count(ctx: Profile) -> u32
         + profiles::weight(ctx.has_h_extension, 25)
         + profiles::weight(ctx.has_v_extension, 7)
         + profiles::weight(ctx.has_crypto_extension, 1)
-        + u64::count_ones(custom)
+        + ctx.custom.count_ones()
 }
 
 // Whether the profile makes the address, which may be any number, available. Not by `decode_csr`: a look-up with one
 // caller is inlined there, and every flag is unpacked before the gate is known.
+#[tactic(auto, using(crate::proofs::Laws::found_gated), unfolding(crate::specs::Gates::available, crate::specs::Gates::decode_csr_def))]
 pub fn is_available(ctx: Profile, csr: usize) -> bool
     ensures { result ≡ available ctx csr }
 {
-    match gated_at(csr) {
-        Gated::Holds(gate, _) => allows(ctx, gate),
-        None => false,
-    }
+    gated_at(csr).is_some_and(|row| allows(ctx, row.gate))
 }

@@ -6,7 +6,7 @@ use Rattle.csr_addresses.specs.declared.Csr.{Csr}
 use Rattle.csr_addresses.specs.Address.{idx_def}
 use Rattle.utils.proofs.Members.{all}
 use Rattle.csr_addresses.proofs.Find.{keeps}
-use Rattle.csrs.specs.Gates.{spot_def, gated_of}
+use Rattle.csrs.specs.Gates.{spot_def}
 use Rattle.csrs.proofs.Arms.{pmpaddr, counter, event, pmpcfg, odd_pmpcfg, custom, only, gap}
 use Rattle.csrs.proofs.Laws.{is_never, with_gate}
 use Rattle.csrs.proofs.gated_at.Goals as goal
@@ -120,58 +120,58 @@ placed c =
 
 pub returns-in-1953 : goal.returns-in-1953
 unfolding spot_def
-returns-in-1953 c = ap (λ (k : ℕ). gated_of (spot_def k)) (sym c.in-1953.is)
+returns-in-1953 c = ap spot_def (sym c.in-1953.is)
 
 pub returns-in-1954 : goal.returns-in-1954
 unfolding spot_def
-returns-in-1954 c = ap (λ (k : ℕ). gated_of (spot_def k)) (sym c.in-1954.is)
+returns-in-1954 c = ap spot_def (sym c.in-1954.is)
 
 pub returns-in-1955 : goal.returns-in-1955
 unfolding spot_def
-returns-in-1955 c = ap (λ (k : ℕ). gated_of (spot_def k)) (sym c.in-1955.is)
+returns-in-1955 c = ap spot_def (sym c.in-1955.is)
 
 pub returns-in-1960 : goal.returns-in-1960
 unfolding spot_def
-returns-in-1960 c = ap (λ (k : ℕ). gated_of (spot_def k)) (sym c.in-1960.is)
+returns-in-1960 c = ap spot_def (sym c.in-1960.is)
 
 pub returns-in-1968 : goal.returns-in-1968
 unfolding spot_def
-returns-in-1968 c = ap (λ (k : ℕ). gated_of (spot_def k)) (sym c.in-1968.is)
+returns-in-1968 c = ap spot_def (sym c.in-1968.is)
 
 pub returns-in-1969 : goal.returns-in-1969
 unfolding spot_def
-returns-in-1969 c = ap (λ (k : ℕ). gated_of (spot_def k)) (sym c.in-1969.is)
+returns-in-1969 c = ap spot_def (sym c.in-1969.is)
 
 pub returns-in-1970 : goal.returns-in-1970
 unfolding spot_def
-returns-in-1970 c = ap (λ (k : ℕ). gated_of (spot_def k)) (sym c.in-1970.is)
+returns-in-1970 c = ap spot_def (sym c.in-1970.is)
 
 pub returns-in-1971 : goal.returns-in-1971
 unfolding spot_def
-returns-in-1971 c = ap (λ (k : ℕ). gated_of (spot_def k)) (sym c.in-1971.is)
+returns-in-1971 c = ap spot_def (sym c.in-1971.is)
 
 pub returns-else-id-eq0 : goal.returns-else-id-eq0
-returns-else-id-eq0 c = ap gated_of (sym (odd_pmpcfg (omega arith) (omega arith) c.if-id-eq0.false))
+returns-else-id-eq0 c = sym (odd_pmpcfg (omega arith) (omega arith) c.if-id-eq0.false)
 
 pub returns-in_default : goal.returns-in_default
 unfolding all keeps only any
-returns-in_default c = ap gated_of (sym (gap keys 0 803 tt zero-le (omega arith) (search rules)))
+returns-in_default c = sym (gap keys 0 803 tt zero-le (omega arith) (search rules))
 
 pub returns-in_default-2 : goal.returns-in_default-2
 unfolding all keeps only any
-returns-in_default-2 c = ap gated_of (sym (gap keys 832 928 tt (omega arith) (omega arith) (search rules)))
+returns-in_default-2 c = sym (gap keys 832 928 tt (omega arith) (omega arith) (search rules))
 
 pub returns-in_default-3 : goal.returns-in_default-3
 unfolding all keeps only any
-returns-in_default-3 c = ap gated_of (sym (gap keys 1008 1984 tt (omega arith) (omega arith) (search rules)))
+returns-in_default-3 c = sym (gap keys 1008 1984 tt (omega arith) (omega arith) (search rules))
 
 pub returns-in_default-4 : goal.returns-in_default-4
 unfolding all keeps only any
-returns-in_default-4 c = ap gated_of (sym (gap keys 2048 2818 tt (omega arith) (omega arith) (search rules)))
+returns-in_default-4 c = sym (gap keys 2048 2818 tt (omega arith) (omega arith) (search rules))
 
 pub returns-in_default-5 : goal.returns-in_default-5
 unfolding all keeps only any
-returns-in_default-5 c = ap gated_of (sym (gap keys 2848 (2 ^ 64) tt (omega arith) c.ranges.csr.fits (search rules)))
+returns-in_default-5 c = sym (gap keys 2848 (2 ^ 64) tt (omega arith) c.ranges.csr.fits (search rules))
 
 pub gate_of-requires : goal.gate_of-requires
 gate_of-requires c = (_, (placed c).at)
