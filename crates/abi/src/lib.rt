@@ -2,7 +2,8 @@
 #![tactic(auto)]
 
 ghost use Rattle.std.specs.Prelude.{◌≡◌};
-ghost use Rattle.abi.specs.Abi.{profile, length_or};
+ghost use Rattle.abi.specs.Abi.{profile};
+ghost use Rattle.refusals.specs.Answer.{crossed};
 
 use profiles::Profile;
 use refusals::Refusal;
@@ -16,10 +17,7 @@ pub fn profile_of(flags: u64, custom: u64) -> Profile
 
 // How many bytes were put at the front of a buffer, or the refusal.
 pub fn length_of(emitted: Result<usize, Refusal>) -> u64
-    ensures { result ≡ length_or emitted }
+    ensures { result ≡ crossed emitted }
 {
-    match emitted {
-        Ok(len) => len as u64,
-        Err(n) => refusals::refusal(n),
-    }
+    refusals::crossed(emitted.map(|len| len as u64))
 }
