@@ -1,5 +1,4 @@
 pub mod Funct3
-pub mod Writing
 pub mod Access
 pub mod Loads
 pub mod Stores

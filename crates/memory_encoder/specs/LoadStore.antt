@@ -1,8 +1,9 @@
 -- What a load and a store are written as, by the tables that they are read by (`memory_decoder`): document 01's refusals 6, 9 and 10. After that, what
 -- the encoder's own functions answer.
 use Rattle.std.specs.Prelude.{ℕ, ◌%◌, ◌≡◌, true, false, ◌&&◌, cond, eqb, ltb, ℤ}
-use Rattle.std.specs.Prelude.{Option, Some, None}
+use Rattle.std.specs.Prelude.{Option, Some, None, Ok, Err}
 use Rattle.refusals.specs.Answer.{Answer}
+use Rattle.refusals.specs.declared.Refusal.TheVariants as refusal
 use Rattle.utils.specs.declared.Width.{Width}
 use Rattle.profiles.specs.declared.Profile.{Profile}
 use Rattle.forms.specs.Layout.{Operand, imm, rd, rs1, rs2, funct, csr, short}
@@ -32,7 +33,7 @@ operands x b f n csr = 0
 operands x b f n short = 0
 
 -- what a compressed load or store of the register x is written as, by the funct3 f of its 32-bit form
-pub record Compressed (f x b : ℕ) (z : ℤ) (len : Width) (r : (Answer ℕ)) : Type 0 where
+pub record Compressed (f x b : ℕ) (z : ℤ) (len : Width) (r : Answer ℕ) : Type 0 where
   pub as_load : f ≡ 0b010 → r ≡ write_of loads Load.meaning (Load.mk x b z len true false)
   pub as_store : f ≡ 0b110 → r ≡ write_of stores Store.meaning (Store.mk x b z len true)
 
@@ -40,3 +41,8 @@ pub record Compressed (f x b : ℕ) (z : ℤ) (len : Width) (r : (Answer ℕ)) :
 abbrev pub stepped : ℕ → ℕ → Option ℕ → Option ℕ
 stepped s l (Some n) = cond (eqb (n % s) 0 && ltb n l) (Some n) None
 stepped s l None = None
+
+-- a code that was found, or document 01's refusal 10
+abbrev pub coded : Option ℕ → Answer ℕ
+coded (Some n) = Ok n
+coded None = Err refusal.Immediate

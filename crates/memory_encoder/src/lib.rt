@@ -1,5 +1,5 @@
 // Loads and stores as words: the way back from the load and store readings of the crate `memory_decoder`. An instruction may hold any
-// numbers; one that has no word is refused with document 01's numbers.
+// numbers; one that has no word is refused.
 #![tactic(auto)]
 
 ghost use Rattle.std.specs.Prelude.{true, false, ◌≡◌, ◌<◌, ◌≤◌};
@@ -10,14 +10,15 @@ ghost use Rattle.memory_decoder.specs.Forms.{load, store, c_word, c_double, load
 ghost use Rattle.memory_decoder.specs.Funct3.{size_of, funct3_of};
 ghost use Rattle.memory_decoder.specs.Load as Load;
 ghost use Rattle.memory_decoder.specs.Store as Store;
-ghost use Rattle.memory_encoder.specs.LoadStore.{encode_load_def, encode_store_def, Compressed, operands, stepped};
+ghost use Rattle.memory_encoder.specs.LoadStore.{encode_load_def, encode_store_def, Compressed, operands, coded, stepped};
 
 use memory_decoder::{LoadInstr, StoreInstr};
 use profiles::Profile;
 use refusals::Refusal;
 use utils::Width;
 
-// A load as a word, or the refusal's number: 6, 9 and 10 are tested in this order.
+// A load as a word. Its registers are tested first, then that it has a form, then its immediate.
+#[tactic(auto, unfolding(crate::specs::LoadStore::encode_load_def))]
 pub fn encode_load(ctx: Profile, load: LoadInstr) -> Result<u64, Refusal>
     ensures { result ≡ encode_load_def ctx load }
 {
@@ -42,13 +43,12 @@ pub fn encode_load(ctx: Profile, load: LoadInstr) -> Result<u64, Refusal>
     if func3 == 0b111 {
         return Err(Refusal::NoForm);
     }
-    match utils::code_of(imm, HALF) {
-        Some(code) => Ok(load_word(rd, rs1, func3, code)),
-        None => Err(Refusal::Immediate),
-    }
+    let code = immediate(imm)?;
+    Ok(load_word(rd, rs1, func3, code))
 }
 
-// A store as a word, or the refusal's number, tested in the same order.
+// A store as a word, tested in the same order.
+#[tactic(auto, unfolding(crate::specs::LoadStore::encode_store_def))]
 pub fn encode_store(ctx: Profile, store: StoreInstr) -> Result<u64, Refusal>
     ensures { result ≡ encode_store_def ctx store }
 {
@@ -65,11 +65,8 @@ pub fn encode_store(ctx: Profile, store: StoreInstr) -> Result<u64, Refusal>
         }
         return encode_compressed(0b110, rs2, rs1, imm, len);
     }
-    let func3 = size_of(len);
-    match utils::code_of(imm, HALF) {
-        Some(code) => Ok(store_word(rs2, rs1, func3, code)),
-        None => Err(Refusal::Immediate),
-    }
+    let code = immediate(imm)?;
+    Ok(store_word(rs2, rs1, size_of(len), code))
 }
 
 // Half of the codes of a 12-bit immediate: it is -2048 to 2047.
@@ -80,25 +77,22 @@ const SP: usize = 2;
 
 // A register-based compressed load or store of the register `reg`: `func3` is that of the 32-bit form, and the 64-bit form has the
 // next. Both registers are x8 to x15.
-fn encode_compressed(func3: usize, reg: usize, base: usize, imm: isize, len: Width) -> Result<u64, Refusal>
+fn encode_compressed(
+    func3: usize,
+    reg: usize,
+    base: usize,
+    imm: isize,
+    len: Width,
+) -> Result<u64, Refusal>
     requires { (func3 < 7) × ((reg ≤ 31) × ((base ≤ 31) × (base ≡ 2 → ⊥))) }
     ensures { Compressed func3 reg base imm len result }
 {
-    if reg / 8 != 1 {
-        return Err(Refusal::NoForm);
-    }
-    if base / 8 != 1 {
+    if reg / 8 != 1 || base / 8 != 1 {
         return Err(Refusal::NoForm);
     }
     match len {
-        Width::Byte4 => match offset(imm, 4, 128) {
-            Some(code) => Ok(compressed_word(func3, reg, base, code)),
-            None => Err(Refusal::Immediate),
-        },
-        Width::Byte8 => match offset(imm, 8, 256) {
-            Some(code) => Ok(compressed_double(func3 + 1, reg, base, code)),
-            None => Err(Refusal::Immediate),
-        },
+        Width::Byte4 => Ok(compressed_word(func3, reg, base, offset(imm, 4, 128)?)),
+        Width::Byte8 => Ok(compressed_double(func3 + 1, reg, base, offset(imm, 8, 256)?)),
         _ => Err(Refusal::NoForm),
     }
 }
@@ -112,14 +106,8 @@ fn encode_stack_load(rd: usize, imm: isize, len: Width) -> Result<u64, Refusal>
         return Err(Refusal::NoForm);
     }
     match len {
-        Width::Byte4 => match offset(imm, 4, 256) {
-            Some(code) => Ok(stack_load_word(rd, code)),
-            None => Err(Refusal::Immediate),
-        },
-        Width::Byte8 => match offset(imm, 8, 512) {
-            Some(code) => Ok(stack_load_double(rd, code)),
-            None => Err(Refusal::Immediate),
-        },
+        Width::Byte4 => Ok(stack_load_word(rd, offset(imm, 4, 256)?)),
+        Width::Byte8 => Ok(stack_load_double(rd, offset(imm, 8, 512)?)),
         _ => Err(Refusal::NoForm),
     }
 }
@@ -130,32 +118,29 @@ fn encode_stack_store(rs2: usize, imm: isize, len: Width) -> Result<u64, Refusal
     ensures { result ≡ write_of stores Store.meaning (Store.mk rs2 2 imm len true) }
 {
     match len {
-        Width::Byte4 => match offset(imm, 4, 256) {
-            Some(code) => Ok(stack_store_word(rs2, code)),
-            None => Err(Refusal::Immediate),
-        },
-        Width::Byte8 => match offset(imm, 8, 512) {
-            Some(code) => Ok(stack_store_double(rs2, code)),
-            None => Err(Refusal::Immediate),
-        },
+        Width::Byte4 => Ok(stack_store_word(rs2, offset(imm, 4, 256)?)),
+        Width::Byte8 => Ok(stack_store_double(rs2, offset(imm, 8, 512)?)),
         _ => Err(Refusal::NoForm),
     }
 }
 
-// The code of an immediate that is a multiple of `step` below `limit`.
-fn offset(imm: isize, step: usize, limit: usize) -> Option<usize>
-    requires { 0 < step }
-    ensures { result ≡ stepped step limit (code_def 2048 imm) }
+// The code of an immediate of twelve bits.
+fn immediate(imm: isize) -> Result<usize, Refusal>
+    ensures { result ≡ coded (code_def 2048 imm) }
 {
-    match utils::code_of(imm, HALF) {
-        Some(n) => if n % step != 0 {
-            None
-        } else if n < limit {
-            Some(n)
-        } else {
-            None
-        },
-        None => None,
+    utils::code_of(imm, HALF).ok_or(Refusal::Immediate)
+}
+
+// The code of an immediate that is a multiple of `step` below `limit`.
+fn offset(imm: isize, step: usize, limit: usize) -> Result<usize, Refusal>
+    requires { 0 < step }
+    ensures { result ≡ coded (stepped step limit (code_def 2048 imm)) }
+{
+    let code = immediate(imm)?;
+    if code % step == 0 && code < limit {
+        Ok(code)
+    } else {
+        Err(Refusal::Immediate)
     }
 }
 
