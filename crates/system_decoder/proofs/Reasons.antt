@@ -2,7 +2,9 @@
 -- the access is barred. Assumes nothing.
 use Rattle.utils.proofs.Prelude.{◌≡◌, refl, sym, ap, ◌∙◌, Bool, true, false, ◌&&◌, not, cond, ℕ}
 use Rattle.std.proofs.Common.{Result, Ok, Err}
+use Rattle.std.specs.Result.{is_ok}
 use Rattle.csrs.specs.declared.Absent.{Absent}
+use Rattle.csrs.specs.declared.Absent.TheVariants.{GateOff, NoSuch}
 use Rattle.profiles.specs.declared.Profile.{Profile}
 use Rattle.csr_addresses.specs.declared.Csr.{Csr}
 use Rattle.csrs.specs.Gates.{decode_csr_def, if_found, is_found, available}
@@ -11,7 +13,7 @@ use Rattle.system_decoder.specs.declared.Reason.{Reason}
 use Rattle.system_decoder.specs.declared.Shape.{Shape}
 use Rattle.system_decoder.specs.declared.Shape.TheVariants.{Wfi as wfi, Mret as mret, Sret as sret, Fence as fence, Access as access}
 use Rattle.system_decoder.specs.System.{always, barred_def, legal_def}
-use Rattle.system_decoder.specs.Reasons.{judged, judged_def, legality_def, is_legal}
+use Rattle.system_decoder.specs.Reasons.{judged, judged_def, legality_def}
 
 -- what an exit knows: w is what `always_writes` gave, b `is_barred`, which is u, and k the look-up
 pub judging : {X : Type 0} (f : Csr → X) (g : Reason → X) (p : Profile) (o : CsrOp) (a x : ℕ) {w b u : Bool} {k : Result Csr Absent} → w ≡ always o → b ≡ barred_def a w x → b ≡ u → k ≡ decode_csr_def p a
@@ -19,27 +21,27 @@ pub judging : {X : Type 0} (f : Csr → X) (g : Reason → X) (p : Profile) (o :
 judging f g p o a x e h q l = λ j. judged f g ((sym q ∙ h ∙ ap (λ (y : Bool). barred_def a y x) e) j) (l j)
 
 -- what h makes of the answer is the answer that h's own values give
-pub judged_by : {X Y : Type 0} (h : X → Y) (f : Csr → X) (g : Reason → X) (b : Bool) (k : (Result Csr Absent)) → h (judged f g b k) ≡ judged (λ r. h (f r)) (λ y. h (g y)) b k
+pub judged_by : {X Y : Type 0} (h : X → Y) (f : Csr → X) (g : Reason → X) (b : Bool) (k : Result Csr Absent) → h (judged f g b k) ≡ judged (λ r. h (f r)) (λ y. h (g y)) b k
 judged_by h f g true k = refl
 judged_by h f g false (Ok r) = refl
 judged_by h f g false (Err GateOff) = refl
 judged_by h f g false (Err NoSuch) = refl
 
 -- one answer for all reasons
-pub one_answer : {X : Type 0} (f : Csr → X) (x : X) (b : Bool) (k : (Result Csr Absent)) → judged f (λ y. x) b k ≡ cond b x (if_found f x k)
+pub one_answer : {X : Type 0} (f : Csr → X) (x : X) (b : Bool) (k : Result Csr Absent) → judged f (λ y. x) b k ≡ cond b x (if_found f x k)
 one_answer f x true k = refl
 one_answer f x false (Ok r) = refl
 one_answer f x false (Err GateOff) = refl
 one_answer f x false (Err NoSuch) = refl
 
-pub legal_is : (p : Profile) (s : Shape) → is_legal (legality_def p s) ≡ legal_def p s
+pub legal_is : (p : Profile) (s : Shape) → is_ok (legality_def p s) ≡ legal_def p s
 unfolding available
 legal_is p wfi = refl
 legal_is p mret = refl
 legal_is p sret = refl
 legal_is p (fence f x y) = refl
 legal_is p (access o m a d x) =
-    judged_by is_legal (λ r. (Ok tt)) Err (barred_def a (always o) x) (decode_csr_def p a)
+    judged_by is_ok (λ r. Ok tt) Err (barred_def a (always o) x) (decode_csr_def p a)
     ∙ one_answer (λ r. true) false (barred_def a (always o) x) (decode_csr_def p a)
     ∙ test (barred_def a (always o) x) (is_found (decode_csr_def p a))
   where

@@ -23,8 +23,8 @@ use Rattle.system_decoder.specs.System.{op_code, funct3, meaning, access_at, sha
 
 -- what is known of a word, by a table of SYSTEM words
 known : (T : List Layout) → all good T ≡ true → (w : ℕ) (fs : List Fact) → Known w fs → (settles fs T && clears fs []) ≡ true
-    → read_of T meaning w ≡ read_as meaning w (first (fits fs) T 1)
-known T ok = by_facts T meaning ok [] 1 (λ w. refl)
+    → read_of T meaning w ≡ read_as meaning w (first (fits fs) T refusal.Unknown)
+known T ok = by_facts T meaning ok [] refusal.Unknown (λ w. refl)
 
 -- a form that reads a word has its bits
 has : (w : ℕ) (L : Layout) → readable w L ≡ true → matches L w ≡ true
@@ -38,7 +38,7 @@ wholes = wfi ∷ mret ∷ sret ∷ sfence_vma ∷ hfence_vvma ∷ hfence_gvma �
 pub past_wholes : (w : ℕ) → (w < 2 ^ 32 → Unread w wholes) → shape_at w ≡ access_at w
 unfolding shape_at access_at
 past_wholes w h =
-    on (λ (k : Answer Shape). k ≡ access_at w) (ltb w (2 ^ 32)) (λ e. ap (read_as meaning w) (passed w wholes accesses 1 (h (ltb-true w (2 ^ 32) e)))) (λ _. refl)
+    on (λ (k : Answer Shape). k ≡ access_at w) (ltb w (2 ^ 32)) (λ e. ap (read_as meaning w) (passed w wholes accesses refusal.Unknown (h (ltb-true w (2 ^ 32) e)))) (λ _. refl)
 
 -- bits 14:7 zero, and everything from bit 25 up equal to k
 pub record FenceForm (w k : ℕ) : Type 0 where

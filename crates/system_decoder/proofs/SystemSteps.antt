@@ -8,10 +8,12 @@ use Rattle.utils.proofs.Digits.{fld_lt, same_high}
 use Rattle.forms.specs.Meaning.{bit_of}
 use Rattle.forms.proofs.Codes.{bit_one}
 use Rattle.system_decoder.specs.declared.CsrOp.{CsrOp}
+use Rattle.system_decoder.specs.declared.UnknownCode.{UnknownCode}
 use Rattle.system_decoder.specs.declared.Fence.{Fence, TheVariants.Vma, TheVariants.Vvma, TheVariants.Gvma}
 use Rattle.system_decoder.specs.Forms.{funct7}
 use Rattle.system_decoder.specs.declared.Shape.{Shape, TheVariants.Fence as fence, TheVariants.Access as access}
-use Rattle.system_decoder.specs.System.{op_code, FieldsOf, access_at, shape_at}
+use Rattle.system_decoder.specs.System.{op_code, op_from, FieldsOf, access_at, shape_at}
+use Rattle.system_decoder.proofs.Codes.{op_back, no_op_code}
 use Rattle.system_decoder.proofs.SystemMasks.{fence_bits, fence_mask}
 use Rattle.system_decoder.proofs.SystemForms.{FenceForm, past_wholes, unfit_other, at_fence, at_access, at_foreign, at_no_op, low_two}
 
@@ -54,14 +56,8 @@ module _ (w : ℕ) (h : w < 2 ^ 64) where
 
 -- ---- access_at
 module _ (w : ℕ) where
-  pub no_op : w % 2 ^ 7 ≡ 0x73 → bit_and (w / 2 ^ 12) 3 ≡ 0 → Err refusal.Unknown ≡ access_at w
-  no_op e z = sym (at_no_op w e (low_two w ∙ sym (mask_field w 12 2) ∙ z))
-
-  pub some_code : (bit_and (w / 2 ^ 12) 3 ≡ 0 → ⊥) → (1 ≤ bit_and (w / 2 ^ 12) 3) × (bit_and (w / 2 ^ 12) 3 ≤ 3)
-  some_code n = go (bit_and (w / 2 ^ 12) 3) (rw (mask_field w 12 2) (fld_lt w 12 2)) n
-    where
-      go : (k : ℕ) → k < 2 ^ 2 → (k ≡ 0 → ⊥) → (1 ≤ k) × (k ≤ 3)
-      go k h n = (omega arith, omega arith)
+  pub no_op : w % 2 ^ 7 ≡ 0x73 → {u : UnknownCode} → op_from (bit_and (w / 2 ^ 12) 3) ≡ Err u → Err refusal.Unknown ≡ access_at w
+  no_op e q = sym (at_no_op w e (low_two w ∙ sym (mask_field w 12 2) ∙ no_op_code (bit_and (w / 2 ^ 12) 3) (rw (mask_field w 12 2) (fld_lt w 12 2)) q))
 
   -- the fields that the code has read
   pub fields : (o : CsrOp) → op_code o ≡ bit_and (w / 2 ^ 12) 3
@@ -74,10 +70,10 @@ module _ (w : ℕ) where
     ),
   )
 
-  pub accessed : w % 2 ^ 7 ≡ 0x73 → (o : CsrOp) → op_code o ≡ bit_and (w / 2 ^ 12) 3
+  pub accessed : w % 2 ^ 7 ≡ 0x73 → (o : CsrOp) → op_from (bit_and (w / 2 ^ 12) 3) ≡ Ok o
       → Ok (access o (eqb (bit_and (w / 2 ^ 14) 1) 1) (bit_and (w / 2 ^ 20) 4095) (bit_and (w / 2 ^ 7) 31) (bit_and (w / 2 ^ 15) 31)) ≡ access_at w
-  accessed e o c =
-      let f = fields o c in
+  accessed e o q =
+      let f = fields o (op_back (bit_and (w / 2 ^ 12) 3) q) in
       (λ j. Ok (access o (eqb (mask_field w 14 1 j) 1) (mask_field w 20 12 j) (mask_field w 7 5 j) (mask_field w 15 5 j)))
       ∙ sym (at_access w o (eqb (fld w 14 1) 1) e (whole (op_code o) (bit_of (eqb (fld w 14 1) 1)) (sym f.0) (bit_one (fld w 14 1) (fld_lt w 14 1))))
     where

@@ -2,6 +2,7 @@
 use Rattle.std.specs.Prelude.{Bool, true, false, ℕ}
 use Rattle.std.specs.Prelude.{Result, Ok, Err}
 use Rattle.csrs.specs.declared.Absent.{Absent}
+use Rattle.csrs.specs.declared.Absent.TheVariants.{GateOff, NoSuch}
 use Rattle.profiles.specs.declared.Profile.{Profile}
 use Rattle.csr_addresses.specs.declared.Csr.{Csr}
 use Rattle.csrs.specs.Gates.{decode_csr_def}
@@ -18,28 +19,27 @@ letter_of a = 0x61
 letter_of b = 0x62
 letter_of c = 0x63
 
+-- why no register is found
+abbrev pub reason_of : Absent → Reason
+reason_of GateOff = b
+reason_of NoSuch = c
+
 -- what is made of an access: f of its register, or g of the reason. The first argument is whether it would write a read-only register
 abbrev pub judged : {X : Type 0} → (Csr → X) → (Reason → X) → Bool → Result Csr Absent → X
 judged f g true k = g a
 judged f g false (Ok r) = f r
-judged f g false (Err GateOff) = g b
-judged f g false (Err NoSuch) = g c
+judged f g false (Err e) = g (reason_of e)
 
 abbrev pub judged_def : {X : Type 0} → (Csr → X) → (Reason → X) → Profile → CsrOp → ℕ → ℕ → X
 judged_def f g p op address src = judged f g (barred_def address (always op) src) (decode_csr_def p address)
 
 -- whether it is legal, or why not
 abbrev pub access_legality : Profile → CsrOp → ℕ → ℕ → Result (Unit {0}) Reason
-access_legality p op address src = judged_def (λ r. (Ok tt)) Err p op address src
+access_legality p op address src = judged_def (λ r. Ok tt) Err p op address src
 
 abbrev pub legality_def : Profile → Shape → Result (Unit {0}) Reason
-legality_def p wfi = (Ok tt)
-legality_def p mret = (Ok tt)
-legality_def p sret = (Ok tt)
-legality_def p (fence f x y) = (Ok tt)
+legality_def p wfi = Ok tt
+legality_def p mret = Ok tt
+legality_def p sret = Ok tt
+legality_def p (fence f x y) = Ok tt
 legality_def p (access op m address d src) = access_legality p op address src
-
--- dropping the reason
-abbrev pub is_legal : Result (Unit {0}) Reason → Bool
-is_legal (Ok tt) = true
-is_legal (Err r) = false

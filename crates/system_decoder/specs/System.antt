@@ -1,8 +1,9 @@
 -- What a SYSTEM word is by its fields alone, and which of that a profile allows: document 01's "Reading a SYSTEM word", but for the typed
 -- instruction.
 use Rattle.std.specs.Prelude.{Bool, true, false, ◌&&◌, ◌||◌, not, cond, ◌≡◌, List, [], ◌∷◌, ℕ, ◌+◌, ◌*◌, ◌^◌, ◌≤◌, ◌<◌, eqb, ltb, get_or}
-use Rattle.std.specs.Prelude.{Some, Ok, Err}
+use Rattle.std.specs.Prelude.{Some, Result, Ok, Err}
 use Rattle.refusals.specs.Answer.{Answer}
+use Rattle.refusals.specs.declared.Refusal.TheVariants as refusal
 use Rattle.utils.specs.Field.{fld}
 use Rattle.profiles.specs.declared.Profile.{Profile}
 use Rattle.csrs.specs.Gates.{available}
@@ -13,15 +14,12 @@ use Rattle.system_decoder.specs.declared.CsrOp.{CsrOp}
 use Rattle.system_decoder.specs.declared.CsrOp.TheVariants.{Write, Set, Clear}
 use Rattle.system_decoder.specs.declared.Fence.{Fence}
 use Rattle.system_decoder.specs.declared.Fence.TheVariants.{Vma, Vvma, Gvma}
+use Rattle.system_decoder.specs.declared.UnknownCode.{UnknownCode}
 use Rattle.system_decoder.specs.declared.Shape.{Shape}
 use Rattle.system_decoder.specs.declared.Shape.TheVariants.{Wfi as wfi, Mret as mret, Sret as sret, Fence as fence, Access as access}
 
 -- ---- a word by its fields alone: no profile, and an address where an instruction has a register
 -- (the code's `Shape`; an access says whether it is immediate, the address, rd, and rs1 or uimm)
-abbrev pub shape_in : Answer Shape → Answer Shape
-shape_in (Ok s) = Ok s
-shape_in (Err n) = Err n
-
 -- funct3's low two bits, which are also the log's operation codes
 abbrev pub op_code : CsrOp → ℕ
 op_code Write = 1
@@ -31,6 +29,13 @@ op_code Clear = 3
 -- and from a code to what is made of its operation; x where no operation has the code
 abbrev pub by_op : {X : Type 0} → (CsrOp → X) → X → ℕ → X
 by_op f x o = cond (eqb o (op_code Write)) (f Write) (cond (eqb o (op_code Set)) (f Set) (cond (eqb o (op_code Clear)) (f Clear) x))
+
+-- the operation of a code, or that no operation has it
+abbrev pub op_from : ℕ → Result CsrOp UnknownCode
+op_from o = by_op Ok (Err (record { 0 = o })) o
+
+abbrev pub IsOpFrom : ℕ → Result CsrOp UnknownCode → Type 0
+IsOpFrom o r = r ≡ op_from o
 
 -- bits 14:12 of a CSR form, as the six forms of the table have them; the third chooses immediate
 abbrev pub funct3 : CsrOp → Bool → ℕ
@@ -44,6 +49,13 @@ fence_code Gvma = 2
 
 abbrev pub by_fence : {X : Type 0} → (Fence → X) → X → ℕ → X
 by_fence f x c = cond (eqb c (fence_code Vma)) (f Vma) (cond (eqb c (fence_code Vvma)) (f Vvma) (cond (eqb c (fence_code Gvma)) (f Gvma) x))
+
+-- the fence of a code, or that no fence has it
+abbrev pub fence_from : ℕ → Result Fence UnknownCode
+fence_from c = by_fence Ok (Err (record { 0 = c })) c
+
+abbrev pub IsFenceFrom : ℕ → Result Fence UnknownCode → Type 0
+IsFenceFrom c r = r ≡ fence_from c
 
 -- the shapes of a table's operands, in the order of its forms
 abbrev pub shapes : (Operand → ℕ) → List Shape
@@ -87,7 +99,7 @@ operands_of (access o m a d x) = operands (form_number (access o m a d x)) d x 0
 
 -- a word that has no form is refused with 1, `Unknown`; a shape that has none has a register above 31
 abbrev pub meaning : Meaning Shape
-meaning = record { make = λ env. get_or (shapes env) (env funct) wfi; ops = operands_of; code = λ s. Some 0; is_short = λ s. false; reading_refusal = λ w. 1; writing_refusal = λ s. 6 }
+meaning = record { make = λ env. get_or (shapes env) (env funct) wfi; ops = operands_of; code = λ s. Some 0; is_short = λ s. false; reading_refusal = λ w. refusal.Unknown; writing_refusal = λ s. refusal.Register }
 
 -- CSR forms ignore bits above 31
 unfoldable pub access_at : ℕ → Answer Shape
