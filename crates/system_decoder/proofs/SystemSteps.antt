@@ -1,5 +1,5 @@
 -- What each exit of `shape_at` and of `access_at` knows is what the reading asks there. Assumes nothing.
-use Rattle.utils.proofs.Prelude.{◌≡◌, refl, sym, ap, ◌∙◌, subst, ℕ, ◌+◌, ◌*◌, ◌/◌, ◌%◌, ◌^◌, ◌<◌, ◌≤◌, add-zero, arith, eqb, and_mask, bit_and}
+use Rattle.utils.proofs.Prelude.{◌≡◌, refl, sym, ap, ◌∙◌, subst, ℕ, ◌+◌, ◌*◌, ◌/◌, ◌%◌, ◌^◌, ◌<◌, add-zero, arith, eqb, and_mask, bit_and}
 use Rattle.std.proofs.Common.{Ok, Err}
 use Rattle.refusals.specs.declared.Refusal.TheVariants as refusal
 use Rattle.utils.specs.Field.{fld}
