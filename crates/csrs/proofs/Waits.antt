@@ -1,7 +1,7 @@
--- Which gate a register waits for, by its variant: each arm of `gate_of` has registers of one line of the table, or some that have no row.
+-- Which gate a register waits for, by its variant: the registers with a payload that an arm of `gate_of` has are of one line of the table.
 -- Assumes nothing.
 use Rattle.utils.proofs.Prelude.{◌≡◌, refl, sym, ap, ◌∙◌, subst, Bool, true, false, ◌&&◌, ◌||◌, not, List, [], ◌∷◌, map, ℕ, zero, suc, ◌+◌, ◌-◌, ◌≤◌, arith, leb, T}
-use Rattle.std.proofs.Common.{Option, Some, None, Ok}
+use Rattle.std.proofs.Common.{Ok}
 use Rattle.utils.proofs.Prelude.{leb-true}
 use denote.Enum.Declared.{tag_of}
 use mir.Val.{has_key}
@@ -16,10 +16,9 @@ use Rattle.utils.proofs.Members.{Mem, left, right, mapped, within, all}
 use Rattle.csr_addresses.proofs.Find.{keeps, kept, found_at, found_in, hit}
 use Rattle.csr_addresses.proofs.Laws.{at_is, every, idx_once}
 use Rattle.csrs.specs.declared.Gate.{Gate, TheVariants.Always, TheVariants.MaskBit}
-use Rattle.csrs.specs.declared.Row.{Row}
 use Rattle.csrs.specs.Gates.{Group, group, groups, behind, rows_of, custom_row, row_idx, spot_def, gate_in, gate_def}
 use Rattle.csrs.proofs.Arms.{rows_distinct}
-use Rattle.csrs.proofs.Laws.{there, there_is, no_row}
+use Rattle.csrs.proofs.Laws.{there, there_is}
 
 -- a register passes the test f, if it is of one of the variants ks; what holds of each of the list holds of every one that has an address
 unfoldable pub if_among : List ℕ → (Csr → Bool) → Csr → Bool
@@ -59,15 +58,6 @@ waits i ks t c {a} e o =
     let w = there_is (find idx_def a cs) (kept (λ b. there (find idx_def b cs)) a (idx_def c) e (tagged ks (in_group i) t c e o)) in
     let m = subst (λ (d : Csr). Mem d cs) (idx_once w.0 c a (found_at idx_def a cs w.0 w.1) e) (found_in idx_def a cs w.0 w.1) in
     sym (ap gate_def e ∙ ap gate_in (hit row_idx a rows_distinct (left (map custom_row (down_from 64)) (lined i groups m)) e))
-
--- ---- a register without a row waits for a bit that no mask has
-pub shut : (ks : List ℕ) → T (all (if_among ks no_row) registers) → (c : Csr) {a : ℕ} → idx_def c ≡ Ok a → OneOf ks (tag_of the_type c) → MaskBit 64 ≡ gate_def (idx_def c)
-unfolding no_row
-shut ks t c {a} e o = step (spot_def a) (kept (λ b. not (there (spot_def b))) a (idx_def c) e (tagged ks no_row t c e o)) ∙ sym (ap gate_def e)
-  where
-    step : (s : Option Row) → T (not (there s)) → MaskBit 64 ≡ gate_in s
-    step (Some r) u = absurd u
-    step None u = refl
 
 -- ---- a custom register waits for its bit
 pub custom_low : (n : ℕ) {a : ℕ} → idx_def (Custom n) ≡ Ok a → 0x7C0 ≤ n

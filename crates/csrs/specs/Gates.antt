@@ -102,8 +102,7 @@ decode_csr_def p a = answer p (spot_def a)
 -- what is made of the register that is found, or x where none is: all that is asked where no reason is
 abbrev pub if_found : {X : Type 0} → (Csr → X) → X → Result Csr Absent → X
 if_found f x (Ok c) = f c
-if_found f x (Err GateOff) = x
-if_found f x (Err NoSuch) = x
+if_found f x (Err e) = x
 
 abbrev pub is_found : Result Csr Absent → Bool
 is_found k = if_found (λ c. true) false k

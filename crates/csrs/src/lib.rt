@@ -61,6 +61,7 @@ fn allows(ctx: Profile, gate: Gate) -> bool
 
 // What a register that has an address waits for, in the order of the table of specs/Gates. Every register is named: one that is
 // left out is an error, and never an open gate.
+#[tactic(auto, unfolding(crate::specs::Gates::spot_def))]
 fn gate_of(register: Csr) -> Gate
     requires { (a : ℕ) × (idx_def register ≡ Ok a) }
     ensures { result ≡ gate_def (idx_def register) }
@@ -97,6 +98,7 @@ fn gate_of(register: Csr) -> Gate
 
 // The look-up by address, which may be any number. It takes no profile, so that flags are only read where a gate asks; and
 // `gate_of` has no other caller, so that the compiler merges it into the arms.
+#[tactic(auto, unfolding(crate::specs::Gates::spot_def))]
 fn gated_at(csr: usize) -> Option<Row>
     ensures { result ≡ spot_def csr }
 {

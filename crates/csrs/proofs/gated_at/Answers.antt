@@ -6,7 +6,6 @@ use Rattle.csr_addresses.specs.declared.Csr.{Csr}
 use Rattle.csr_addresses.specs.Address.{idx_def}
 use Rattle.utils.proofs.Members.{all}
 use Rattle.csr_addresses.proofs.Find.{keeps}
-use Rattle.csrs.specs.Gates.{spot_def}
 use Rattle.csrs.proofs.Arms.{pmpaddr, counter, event, pmpcfg, odd_pmpcfg, custom, only, gap}
 use Rattle.csrs.proofs.Laws.{is_never, with_gate}
 use Rattle.csrs.proofs.gated_at.Goals as goal
@@ -117,38 +116,6 @@ placed c =
       | in-1984-to-2047 w ↦ family w.found-is (custom (omega arith) (omega arith)) refl
       | in-2819-to-2847 w ↦ family w.found-is (counter (climb 1 2818 keys tt (omega arith) (search rules)) (omega arith)) refl
     ]
-
-pub returns-in-1953 : goal.returns-in-1953
-unfolding spot_def
-returns-in-1953 c = ap spot_def (sym c.in-1953.is)
-
-pub returns-in-1954 : goal.returns-in-1954
-unfolding spot_def
-returns-in-1954 c = ap spot_def (sym c.in-1954.is)
-
-pub returns-in-1955 : goal.returns-in-1955
-unfolding spot_def
-returns-in-1955 c = ap spot_def (sym c.in-1955.is)
-
-pub returns-in-1960 : goal.returns-in-1960
-unfolding spot_def
-returns-in-1960 c = ap spot_def (sym c.in-1960.is)
-
-pub returns-in-1968 : goal.returns-in-1968
-unfolding spot_def
-returns-in-1968 c = ap spot_def (sym c.in-1968.is)
-
-pub returns-in-1969 : goal.returns-in-1969
-unfolding spot_def
-returns-in-1969 c = ap spot_def (sym c.in-1969.is)
-
-pub returns-in-1970 : goal.returns-in-1970
-unfolding spot_def
-returns-in-1970 c = ap spot_def (sym c.in-1970.is)
-
-pub returns-in-1971 : goal.returns-in-1971
-unfolding spot_def
-returns-in-1971 c = ap spot_def (sym c.in-1971.is)
 
 pub returns-else-id-eq0 : goal.returns-else-id-eq0
 returns-else-id-eq0 c = sym (odd_pmpcfg (omega arith) (omega arith) c.if-id-eq0.false)
