@@ -1,21 +1,25 @@
--- Which numbers the checks of a shape refuse with. Assumes nothing.
-use Rattle.utils.proofs.Prelude.{◌≡◌, sym, inl, inr, Bool, true, false, ◌&&◌, [], ◌∷◌, ℕ, leb}
+-- Which refusals the checks of a shape have. Assumes nothing.
+use Rattle.utils.proofs.Prelude.{◌≡◌, sym, inl, inr, Bool, true, false, ◌&&◌, List, [], ◌∷◌, leb}
 use Rattle.std.proofs.Common.{Err}
 use Rattle.refusals.specs.Answer.{Answer}
+use Rattle.refusals.specs.declared.Refusal.{Refusal}
+use Rattle.refusals.specs.declared.Refusal.TheVariants as refusal
 use Rattle.profiles.specs.declared.Profile.{Profile}
 use Rattle.csrs.specs.Gates.{available}
 use Rattle.forms.specs.Numbers.{OneOf}
 use Rattle.utils.proofs.Tests.{on}
-use Rattle.refusals.proofs.Answers.{no_value}
-use Rattle.forms.proofs.Numbers.{same_refusal}
+use Rattle.refusals.proofs.Answers.{no_value, same_refusal}
 use Rattle.system_decoder.specs.declared.Shape.{Shape}
 use Rattle.system_decoder.specs.declared.Shape.TheVariants.{Wfi as wfi, Mret as mret, Sret as sret, Fence as fence, Access as access}
 use Rattle.system_decoder.specs.System.{always, barred_def}
 use Rattle.system_encoder.specs.System.{reached, checked_def}
 
--- the checks' numbers
+-- document 01's 6, 7 and 8
+abbrev pub checking_refusals : List Refusal
+checking_refusals = refusal.Register ∷ refusal.Csr ∷ refusal.ReadOnly ∷ []
+
 abbrev pub ByChecks : Answer Shape → Type 0
-ByChecks k = (n : ℕ) → k ≡ Err n → OneOf (6 ∷ 7 ∷ 8 ∷ []) n
+ByChecks k = (e : Refusal) → k ≡ Err e → OneOf checking_refusals e
 
 pub check_numbers : (p : Profile) (s : Shape) → ByChecks (checked_def p s)
 check_numbers p wfi = λ n e. no_value n wfi (sym e)

@@ -2,7 +2,8 @@
 -- a word. Assumes nothing.
 use Rattle.utils.proofs.Prelude.{◌≡◌, refl, sym, ap, ◌∙◌, subst, Bool, true, false, List, [], ◌∷◌, ℕ, zero, suc, ◌^◌, ◌<◌, ◌≤◌, arith, ltb, get_or, lt-ltb}
 use Rattle.std.proofs.Common.{Some, Ok, Err}
-use Rattle.refusals.specs.Answer.{Answer, number_in}
+use Rattle.refusals.specs.Answer.{Answer, done}
+use Rattle.refusals.specs.declared.Refusal.TheVariants as refusal
 use Rattle.registers.specs.Numbers.{are_valid}
 use Rattle.registers.proofs.Numbers.{valid}
 use Rattle.profiles.specs.declared.Profile.{Profile}
@@ -88,37 +89,22 @@ checked_is p mret t = λ e. let z : mret ≡ t = cc in (z, subst Low z tt)
 checked_is p sret t = λ e. let z : sret ≡ t = cc in (z, subst Low z tt)
 checked_is p (fence f a b) t =
     on (λ (k : Answer Shape). k ≡ Ok t → (fence f a b ≡ t) × Low t) (are_valid a b)
-    (λ q e. let z : fence f a b ≡ t = cc in (z, subst Low z (valid a b q))) (λ _ e. no_value 6 t e)
+    (λ q e. let z : fence f a b ≡ t = cc in (z, subst Low z (valid a b q))) (λ _ e. no_value refusal.Register t e)
 checked_is p (access o m a d x) t =
     on (λ (k : Answer Shape). k ≡ Ok t → (access o m a d x ≡ t) × Low t) (are_valid d x)
-    (λ q. let l = valid d x q in go l.0 l.1 (available p a) refl (barred_def a (always o) x)) (λ _ e. no_value 6 t e)
+    (λ q. let l = valid d x q in go l.0 l.1 (available p a) refl (barred_def a (always o) x)) (λ _ e. no_value refusal.Register t e)
   where
     go : d ≤ 31 → x ≤ 31 → (k : Bool) → available p a ≡ k → (b : Bool) → reached k b (access o m a d x) ≡ Ok t → (access o m a d x ≡ t) × Low t
-    go g h true q true e = no_value 8 t e
+    go g h true q true e = no_value refusal.ReadOnly t e
     go g h true q false e = let z : access o m a d x ≡ t = cc in (z, subst Low z (available_lt p a q, (g, h)))
-    go g h false q b e = no_value 7 t e
+    go g h false q b e = no_value refusal.Csr t e
 
--- a shape that is refused with 0 is not refused
-abbrev Numbered : Answer Shape → Type 0
-Numbered (Ok s) = Unit {0}
-Numbered (Err n) = 0 < n
-
-numbered : (p : Profile) (s : Shape) → Numbered (checked_def p s)
-numbered p wfi = tt
-numbered p mret = tt
-numbered p sret = tt
-numbered p (fence f a b) = on Numbered (are_valid a b) (λ _. tt) (λ _. omega arith)
-numbered p (access o m a d x) =
-    on Numbered (are_valid d x)
-    (λ _. on Numbered (available p a) (λ _. on Numbered (barred_def a (always o) x) (λ _. omega arith) (λ _. tt)) (λ _. omega arith))
-    (λ _. omega arith)
-
-pub not_refused : (p : Profile) (s : Shape) → number_in (checked_def p s) ≡ 0 → (checked_def p s ≡ Ok s) × Low s
-not_refused p s = go (checked_def p s) refl (numbered p s)
+pub not_refused : (p : Profile) (s : Shape) → done (checked_def p s) ≡ Ok tt → (checked_def p s ≡ Ok s) × Low s
+not_refused p s = go (checked_def p s) refl
   where
-    go : (k : Answer Shape) → checked_def p s ≡ k → Numbered k → number_in k ≡ 0 → (checked_def p s ≡ Ok s) × Low s
-    go (Ok t) e h z = let c = checked_is p s t e in (e ∙ ap Ok (sym c.0), subst Low (sym c.0) c.1)
-    go (Err n) e h z = absurd (omega arith)
+    go : (k : Answer Shape) → checked_def p s ≡ k → done k ≡ Ok tt → (checked_def p s ≡ Ok s) × Low s
+    go (Ok t) e h = let c = checked_is p s t e in (e ∙ ap Ok (sym c.0), subst Low (sym c.0) c.1)
+    go (Err n) e h = no_value n _ h
 
 low_word : (s : Shape) → Low s → (w : ℕ) × (write_of system meaning s ≡ Ok w)
 low_word wfi l = (_, refl)

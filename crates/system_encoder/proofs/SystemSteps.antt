@@ -1,10 +1,8 @@
 -- What each exit of the SYSTEM writing's functions knows is what the definition asks there. Assumes nothing.
 use Rattle.utils.proofs.Prelude.{◌≡◌, refl, sym, ap, ◌∙◌, subst, Bool, true, false, ◌||◌, not, cond, [], ◌∷◌, ℕ, ◌*◌, ◌-◌, ◌%◌, ◌^◌, ◌<◌, ◌≤◌, arith, leb}
-use Rattle.std.proofs.Common.{Some, None, Ok, Err}
-use Rattle.refusals.specs.Answer.{number_in}
+use Rattle.std.proofs.Common.{Some, None, Ok}
 use Rattle.refusals.specs.declared.Refusal.TheVariants as refusal
-use Rattle.utils.proofs.Prelude.{mod-eq_of_lt, and_mask, bit_and, not-true}
-use borrow.Author.Tests.{not-false}
+use Rattle.utils.proofs.Prelude.{mod-eq_of_lt, and_mask, bit_and}
 use lib.Bits.{bit_or}
 use Rattle.forms.specs.Layout.{Layout, Operand, imm, rd, rs1, rs2, funct, csr, short, all, width, holds, good, build}
 use Rattle.forms.specs.Sound.{first}
@@ -16,11 +14,7 @@ use Rattle.system_decoder.specs.declared.CsrOp.{CsrOp, TheVariants.Write, TheVar
 use Rattle.system_decoder.specs.declared.Fence.{Fence, TheVariants.Vma, TheVariants.Vvma, TheVariants.Gvma}
 use Rattle.system_decoder.specs.Forms.{funct7, sfence_vma, hfence_vvma, hfence_gvma, csrrw, csrrs, csrrc, csrrwi, csrrsi, csrrci, system}
 use Rattle.system_decoder.specs.declared.Shape.{Shape, TheVariants.Fence as fence, TheVariants.Access as access}
-use Rattle.system_decoder.specs.System.{operands, operands_of, funct3, always, barred_def, meaning}
-use Rattle.registers.specs.Numbers.{are_valid}
-use Rattle.profiles.specs.declared.Profile.{Profile}
-use Rattle.csrs.specs.Gates.{available}
-use Rattle.system_encoder.specs.System.{reached, checked_def}
+use Rattle.system_decoder.specs.System.{operands, operands_of, funct3, meaning}
 
 -- ---- the words
 -- what is known of a shape's operands: of the form's number, rd, rs1, rs2 and the CSR
@@ -35,7 +29,7 @@ told k d a b c short = exactly 0
 
 -- a shape of which this settles that the form is L is written by L
 module _ (s : Shape) (ks : Operand → Told) (h : (x : Operand) → KnownAs (operands_of s x) (ks x)) (L : Layout) where
-  by_layout : all (λ M. drops ks M || picks ks M) system ≡ true → first (λ M. not (drops ks M)) system 6 ≡ Ok L → holds L imm 0 ≡ true → good L ≡ true → leb (width L) 64 ≡ true
+  by_layout : all (λ M. drops ks M || picks ks M) system ≡ true → first (λ M. not (drops ks M)) system refusal.Register ≡ Ok L → holds L imm 0 ≡ true → good L ≡ true → leb (width L) 64 ≡ true
       → {r : ℕ} → r ≡ or_build L (operands_of s) → Ok r ≡ write_of system meaning s
   by_layout t f i g l e =
       ap Ok (e ∙ put_together L g l (operands_of s)) ∙ ap (λ (b : Bool). put (cond b (Some 0) None) (build L (operands_of s))) (sym i)
@@ -89,23 +83,3 @@ module _ (a b : ℕ) (la : a ≤ 31) (lb : b ≤ 31) where
   fence_word_lem Vma = by_layout (fence Vma a b) (fence_told 3) (fence_known (fence Vma a b) 3 refl) sfence_vma refl refl refl refl refl (fence_masks (funct7 Vma * 2 ^ 25))
   fence_word_lem Vvma = by_layout (fence Vvma a b) (fence_told 4) (fence_known (fence Vvma a b) 4 refl) hfence_vvma refl refl refl refl refl (fence_masks (funct7 Vvma * 2 ^ 25))
   fence_word_lem Gvma = by_layout (fence Gvma a b) (fence_told 5) (fence_known (fence Gvma a b) 5 refl) hfence_gvma refl refl refl refl refl (fence_masks (funct7 Gvma * 2 ^ 25))
-
--- ---- 6, 7 and 8 of an access: v is what `are_valid` gave, k `is_available`, b `is_barred`
-module _ (p : Profile) (o : CsrOp) (a d x : ℕ) {v : Bool} (e : v ≡ are_valid d x) where
-  asked : (u t b : Bool) → v ≡ u → t ≡ available p a → b ≡ barred_def a (always o) x → (m : Bool)
-      → number_in (cond u (reached t b (access o m a d x)) (Err refusal.Register)) ≡ number_in (checked_def p (access o m a d x))
-  asked u t b q f g m = λ j. number_in (cond ((sym q ∙ e) j) (reached (f j) (g j) (access o m a d x)) (Err refusal.Register))
-
-  pub past_31 : not v ≡ true → (m : Bool) → 6 ≡ number_in (checked_def p (access o m a d x))
-  past_31 q = asked false (available p a) (barred_def a (always o) x) (not-true v q) refl refl
-
-  module _ (low : not v ≡ false) {k : Bool} (f : k ≡ available p a) where
-    pub unavailable : not k ≡ true → (m : Bool) → 7 ≡ number_in (checked_def p (access o m a d x))
-    unavailable q = asked true false (barred_def a (always o) x) (not-false v low) (sym (not-true k q) ∙ f) refl
-
-    module _ (there : not k ≡ false) {w : Bool} (g : w ≡ always o) {b : Bool} (h : b ≡ barred_def a w x) where
-      is_barred : b ≡ barred_def a (always o) x
-      is_barred = h ∙ ap (λ (y : Bool). barred_def a y x) g
-
-      pub barring : {u : Bool} → b ≡ u → (m : Bool) → number_in (reached true u (access o m a d x)) ≡ number_in (checked_def p (access o m a d x))
-      barring {u} q = asked true true u (not-false v low) (sym (not-false k there) ∙ f) (sym q ∙ is_barred)

@@ -1,5 +1,5 @@
 -- The SYSTEM writing: whether a profile lets a shape be written, or why not; and the shape's word, by the table that reads it.
-use Rattle.std.specs.Prelude.{Bool, cond}
+use Rattle.std.specs.Prelude.{Bool, cond, ℕ}
 use Rattle.std.specs.Prelude.{Ok, Err}
 use Rattle.refusals.specs.Answer.{Answer}
 use Rattle.refusals.specs.declared.Refusal.TheVariants as refusal

@@ -3,8 +3,7 @@
 #![tactic(auto)]
 
 ghost use Rattle.std.specs.Prelude.{◌≡◌, Bool, ◌*◌, ◌^◌};
-ghost use Rattle.forms.specs.declared.Wrote.TheVariants.{Word};
-ghost use Rattle.forms.specs.Answer.{number_in};
+ghost use Rattle.refusals.specs.Answer.{done};
 ghost use Rattle.forms.specs.Meaning.{write_of};
 ghost use Rattle.system_decoder.specs.Forms.{funct7, system};
 ghost use Rattle.system_decoder.specs.System.{Low, funct3, meaning};
@@ -18,26 +17,21 @@ use system_decoder::{CsrOp, Fence, Shape};
 pub fn encode_shape(ctx: Profile, shape: Shape) -> Result<u64, Refusal>
     ensures { result ≡ write_shape (checked_def ctx shape) }
 {
-    let number = refusal_of(ctx, shape);
-    if number != 0 {
-        return Err(number);
-    }
+    check(ctx, shape)?;
     Ok(word_of(shape))
 }
 
-// Why the profile does not let a shape that may hold any numbers be written, 0 where it does: what a word, a log record and a line of
-// text have in common.
-pub fn refusal_of(ctx: Profile, shape: Shape) -> u8
-    ensures { result ≡ number_in (checked_def ctx shape) }
+// Whether the profile lets a shape that may hold any numbers be written, or why not: what a word, a log record and a line of text have
+// in common.
+pub fn check(ctx: Profile, shape: Shape) -> Result<(), Refusal>
+    ensures { result ≡ done (checked_def ctx shape) }
 {
     match shape {
-        Shape::Wfi => 0,
-        Shape::Mret => 0,
-        Shape::Sret => 0,
+        Shape::Wfi | Shape::Mret | Shape::Sret => Ok(()),
         Shape::Fence { rs1, rs2, .. } => if registers::are_valid(rs1, rs2) {
-            0
+            Ok(())
         } else {
-            Refusal::Register
+            Err(Refusal::Register)
         },
         Shape::Access {
             op,
@@ -45,32 +39,32 @@ pub fn refusal_of(ctx: Profile, shape: Shape) -> u8
             rd,
             src,
             ..
-        } => access_refusal(ctx, op, csr, rd, src),
+        } => check_access(ctx, op, csr, rd, src),
     }
 }
 
 // The same of a CSR form: 6, 7, 8 in document 01's order.
-fn access_refusal(ctx: Profile, op: CsrOp, csr: usize, rd: usize, src: usize) -> u8
-    ensures { (imm : Bool) → result ≡ number_in (checked_def ctx (Shape.Access op imm csr rd src)) }
+fn check_access(ctx: Profile, op: CsrOp, csr: usize, rd: usize, src: usize) -> Result<(), Refusal>
+    ensures { (imm : Bool) → result ≡ done (checked_def ctx (Shape.Access op imm csr rd src)) }
 {
     if !registers::are_valid(rd, src) {
-        return Refusal::Register;
+        return Err(Refusal::Register);
     }
     // The readings ask `decode_csr`, for the reason. With `is_available` here the look-up under both has two callers, so the compiler
     // keeps it as one function, and the readings merge the rest (docs/SPEED.md).
     if !csrs::is_available(ctx, csr) {
-        return Refusal::Csr;
+        return Err(Refusal::Csr);
     }
-    if system_decoder::is_barred(csr, system_decoder::always_writes(op), src) {
-        return Refusal::ReadOnly;
+    if system_decoder::is_barred(csr, op.always_writes(), src) {
+        return Err(Refusal::ReadOnly);
     }
-    0
+    Ok(())
 }
 
 // The word of a shape whose numbers fit.
 fn word_of(shape: Shape) -> u64
     requires { Low shape }
-    ensures { Word result ≡ write_of system meaning shape }
+    ensures { Ok result ≡ write_of system meaning shape }
 {
     match shape {
         Shape::Wfi => 0b00010000010100000000000001110011,
@@ -104,22 +98,13 @@ fn word_of(shape: Shape) -> u64
 fn csr_func3(op: CsrOp, imm: bool) -> usize
     ensures { result ≡ funct3 op imm * 2 ^ 12 }
 {
-    match op {
-        CsrOp::Write => if imm {
-            system_decoder::CSRRWI
-        } else {
-            system_decoder::CSRRW
-        },
-        CsrOp::Set => if imm {
-            system_decoder::CSRRSI
-        } else {
-            system_decoder::CSRRS
-        },
-        CsrOp::Clear => if imm {
-            system_decoder::CSRRCI
-        } else {
-            system_decoder::CSRRC
-        },
+    match (op, imm) {
+        (CsrOp::Write, false) => system_decoder::CSRRW,
+        (CsrOp::Set, false) => system_decoder::CSRRS,
+        (CsrOp::Clear, false) => system_decoder::CSRRC,
+        (CsrOp::Write, true) => system_decoder::CSRRWI,
+        (CsrOp::Set, true) => system_decoder::CSRRSI,
+        (CsrOp::Clear, true) => system_decoder::CSRRCI,
     }
 }
 
