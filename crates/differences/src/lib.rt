@@ -5,26 +5,26 @@ ghost use Rattle.differences.specs.Difference.{FirstDifference};
 
 use harts::Table;
 
-// Where two tables differ first.
+// A place where two tables differ.
 #[derive(Clone, Copy)]
-pub enum Difference {
-    At { hart: usize, csr: usize },
-    Nowhere,
+pub struct Difference {
+    pub hart: usize,
+    pub csr: usize,
 }
 
-// The first hart, then lowest address, where availability differs.
-pub fn first_difference(a: Table, b: Table) -> Difference
+// The first hart, then lowest address, where availability differs; None where it differs nowhere.
+pub fn first_difference(a: Table, b: Table) -> Option<Difference>
     ensures { FirstDifference a b result }
 {
     let left = a.profiles;
     let right = b.profiles;
-    let mut found = Difference::Nowhere;
+    let mut found = None;
     'search: for hart in 0usize..8 {
         let p = left[hart];
         let q = right[hart];
         for csr in 0usize..4096 {
             if csrs::is_available(p, csr) != csrs::is_available(q, csr) {
-                found = Difference::At { hart, csr };
+                found = Some(Difference { hart, csr });
                 break 'search;
             }
         }

@@ -9,7 +9,7 @@ ghost use Rattle.csrs.specs.Count.{count_def};
 ghost use Rattle.abi.specs.Abi.{profile};
 ghost use Rattle.matnosoru_csrs.specs.Csrs.{lookup_code, TablesDiffer, extended_by};
 
-use differences::Difference;
+use csrs::Absent;
 use refusals::Refusal;
 use utils::Width;
 
