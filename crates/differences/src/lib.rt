@@ -16,12 +16,11 @@ pub struct Difference {
 pub fn first_difference(a: Table, b: Table) -> Option<Difference>
     ensures { FirstDifference a b result }
 {
-    let left = a.profiles;
-    let right = b.profiles;
+    // The loops count what is answered, a hart and an address
     let mut found = None;
     'search: for hart in 0usize..8 {
-        let p = left[hart];
-        let q = right[hart];
+        let p = a.profiles[hart];
+        let q = b.profiles[hart];
         for csr in 0usize..4096 {
             if csrs::is_available(p, csr) != csrs::is_available(q, csr) {
                 found = Some(Difference { hart, csr });

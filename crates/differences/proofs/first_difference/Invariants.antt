@@ -11,4 +11,4 @@ invariant-loop-csr l = (l.found ≡ None) × ((y : ℕ) → y < l.csr → availa
 abbrev pub invariant-search : goal.invariant-search
 invariant-search l =
     (l.found ≡ None)
-    × ((k : ℕ) → k < l.hart → (y : ℕ) → y < 4096 → available (get_or l.left k empty_profile) y ≡ available (get_or l.right k empty_profile) y)
+    × ((k : ℕ) → k < l.hart → (y : ℕ) → y < 4096 → available (get_or l.a.profiles k empty_profile) y ≡ available (get_or l.b.profiles k empty_profile) y)
