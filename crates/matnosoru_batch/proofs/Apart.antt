@@ -17,7 +17,7 @@ use Rattle.matnosoru_batch.proofs.Answers.{handed_on}
 under_table : (table words harts readings out : List ℕ) → length table ≡ 80 → OneLength words harts readings
     → output_of table words harts readings out ≡ batched_out (table_of table) words harts readings out
 under_table table words harts readings out l one =
-    ap (λ (k : (Answer ℕ)). leaves k (table_of table) words harts readings out) (handed_on table words harts readings out one.0 one.1 l)
+    ap (λ (k : Answer ℕ). leaves k (table_of table) words harts readings out) (handed_on table words harts readings out one.0 one.1 l)
 
 module _ (hart : ℕ) (harts table table' words words' readings readings' out out' : List ℕ) where
   -- the request: `after` and `after'` are the outputs as the contract of `matnosoru_batch` has them

@@ -2,10 +2,9 @@
 #![tactic(auto)]
 
 ghost use Rattle.std.specs.Prelude.{◌≡◌};
-ghost use Rattle.matnosoru_batch.specs.Batch.{answer_of, slots_or, output_of};
+ghost use Rattle.matnosoru_batch.specs.Batch.{answer_of, low_half, slots_or, output_of};
 
 use refusals::Refusal;
-
 
 // Writes a slot of twelve bytes for each entry to the front of a buffer: how many slots, in 32 bits, or the refusal: 17 where the lists are
 // not of one length, 14 where the table is not eighty bytes, 14 where the buffer is shorter than the slots.
@@ -20,17 +19,28 @@ pub extern "C" fn matnosoru_batch(
     ensures value { result ≡ slots_or (answer_of table.now words.now harts.now readings.now out.old) }
     ensures out_after { out.new ≡ output_of table.now words.now harts.now readings.now out.old }
 {
+    refusals::crossed(slots(table, words, harts, readings, out))
+}
+
+fn slots(
+    table: &[u8],
+    words: &[u64],
+    harts: &[u8],
+    readings: &[u8],
+    out: &mut [u8],
+) -> Result<u64, Refusal>
+    ensures value { result ≡ low_half (answer_of table.now words.now harts.now readings.now out.old) }
+    ensures out_after { out.new ≡ output_of table.now words.now harts.now readings.now out.old }
+{
     if words.len() != harts.len() {
-        return refusals::refusal(Refusal::ListLengths);
+        return Err(Refusal::ListLengths);
     }
     if words.len() != readings.len() {
-        return refusals::refusal(Refusal::ListLengths);
+        return Err(Refusal::ListLengths);
     }
     if table.len() != 80 {
-        return refusals::refusal(Refusal::OutputShort);
+        return Err(Refusal::OutputShort);
     }
-    match batch::batch(harts::table_of(table), words, harts, readings, out) {
-        Ok(n) => n as u64 % 0x1_0000_0000,
-        Err(no) => refusals::refusal(no),
-    }
+    let n = batch::batch(harts::table_of(table), words, harts, readings, out)?;
+    Ok(n as u64 % 0x1_0000_0000)
 }
