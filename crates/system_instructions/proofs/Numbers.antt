@@ -1,7 +1,8 @@
--- Which numbers the SYSTEM reading refuses with: 1 where the word has no shape, 2 where the profile makes no instruction of its shape. Assumes nothing.
-use Rattle.utils.proofs.Prelude.{◌≡◌, refl, sym, ap, ◌∙◌, inl, inr, ◌↔◌, cond, [], ◌∷◌, ℕ, ◌^◌, arith, ltb}
+-- Which refusals the SYSTEM reading has: 1 where the word has no shape, 2 where the profile makes no instruction of its shape. Assumes nothing.
+use Rattle.utils.proofs.Prelude.{◌≡◌, refl, sym, ap, ◌∙◌, inl, inr, ◌↔◌, Bool, cond, [], ◌∷◌, ℕ, ◌^◌, ltb}
 use Rattle.std.proofs.Common.{Ok, Err}
-use Rattle.refusals.specs.Answer.{Answer}
+use Rattle.refusals.specs.Answer.{Answer, done}
+use Rattle.refusals.specs.declared.Refusal.{Refusal}
 use Rattle.refusals.specs.declared.Refusal.TheVariants as refusal
 use Rattle.profiles.specs.declared.Profile.{Profile}
 use Rattle.forms.specs.Numbers.{OneOf}
@@ -12,56 +13,65 @@ use Rattle.system_decoder.specs.Forms.{system, accesses}
 use Rattle.system_instructions.specs.declared.IllegalInst.{IllegalInst}
 use Rattle.system_decoder.specs.declared.Shape.{Shape}
 use Rattle.system_decoder.specs.System.{meaning, access_at, shape_at, legal_def}
-use Rattle.system_instructions.specs.Instruction.{number_of, read_shape, illegal_def, own_shape, shape_for, encode_illegal_def}
+use Rattle.system_instructions.specs.Instruction.{inst_at, read_shape, illegal_def, own_shape, shape_for, encode_illegal_def}
 use Rattle.forms.specs.Numbers.{RefusesBy}
-use Rattle.forms.proofs.AnyReader.{no_word}
-use Rattle.forms.proofs.Numbers.{same_refused}
+use Rattle.refusals.proofs.Answers.{no_value, same_refusal}
 use Rattle.system_encoder.specs.System.{write_shape}
 use Rattle.system_encoder.proofs.System.{checked_word}
-use Rattle.system_encoder.proofs.Numbers.{check_numbers}
+use Rattle.system_encoder.proofs.Numbers.{checking_refusals, check_numbers}
 use Rattle.system_instructions.proofs.Legal.{legal, illegal}
 
--- 0 exactly where there is an instruction, and 1 or 2 where there is none
-pub accepted : (r : (Answer IllegalInst)) → (number_of r ≡ 0) ↔ ((i : IllegalInst) × (r ≡ Ok i))
-accepted r = (go r, λ t. ap number_of t.1)
-  where
-    go : (r : (Answer IllegalInst)) → number_of r ≡ 0 → (i : IllegalInst) × (r ≡ Ok i)
-    go (Ok i) e = (i, refl)
-    go (Err refusal.Unknown) e = absurd (omega arith)
-    go (Err refusal.InvalidCsrOp) e = absurd (omega arith)
+-- there is no refusal exactly where there is an instruction
+pub accepted : (r : Answer IllegalInst) → ((e : Refusal) → ¬ (r ≡ Err e)) ↔ ((i : IllegalInst) × (r ≡ Ok i))
+accepted (Ok i) = (λ _. (i, refl), λ _ e q. no_value e i (sym q))
+accepted (Err e) = (λ none. absurd (none e refl), λ t. no_value e t.0 t.1)
 
-pub refused : (r : (Answer IllegalInst)) → ¬ (number_of r ≡ 0) → OneOf (1 ∷ 2 ∷ []) (number_of r)
-refused (Ok i) n = absurd (n refl)
-refused (Err refusal.Unknown) n = inl refl
-refused (Err refusal.InvalidCsrOp) n = inr (inl refl)
-
--- the number of a word that has no shape
-pub shape_number : (w n : ℕ) → shape_at w ≡ Err n → n ≡ 1
+-- the refusal of a word that has no shape
+pub shape_refusal : (w : ℕ) (e : Refusal) → shape_at w ≡ Err e → e ≡ refusal.Unknown
 unfolding shape_at access_at
-shape_number w n =
-    on (λ (k : Answer Shape). k ≡ Err n → n ≡ 1) (ltb w (2 ^ 32)) (λ _. reading_number system meaning w n) (λ _. reading_number accesses meaning w n)
+shape_refusal w e =
+    on (λ (k : Answer Shape). k ≡ Err e → e ≡ refusal.Unknown) (ltb w (2 ^ 32)) (λ _. reading_number system meaning w e) (λ _. reading_number accesses meaning w e)
 
-pub without_shape : (p : Profile) (w n : ℕ) → shape_at w ≡ Err n → number_of (illegal_def p w) ≡ 1
+pub without_shape : (p : Profile) (w : ℕ) (e : Refusal) → shape_at w ≡ Err e → illegal_def p w ≡ Err refusal.Unknown
 unfolding illegal_def
-without_shape p w n e = ap (λ (k : Answer Shape). number_of (read_shape p k)) e
+without_shape p w e q = ap (read_shape p) q
 
 -- and of one that has
-pub with_shape : (p : Profile) (w : ℕ) (s : Shape) → shape_at w ≡ Ok s → number_of (illegal_def p w) ≡ cond (legal_def p s) 0 2
-unfolding illegal_def
-with_shape p w s e =
-    ap (λ (k : Answer Shape). number_of (read_shape p k)) e
-    ∙ by_test (legal_def p s) (λ l. simp ((legal p s l).1, l)) (λ l. simp (illegal p s l, l))
+abbrev pub made : Bool → Answer (Unit {0})
+made b = cond b (Ok tt) (Err refusal.InvalidCsrOp)
 
--- ---- writing: the checks' own numbers, and no other, since whatever passes the checks has a word
--- an instruction is refused with a number exactly where document 01's checks, in their order, give the number
-pub by_checks : (p : Profile) (i : IllegalInst) (n : ℕ) → (encode_illegal_def p i ≡ Err n) ↔ (shape_for p i ≡ Err n)
-unfolding encode_illegal_def
-by_checks p i n = (go (shape_for p i) refl, ap write_shape)
+pub made_of : (p : Profile) (s : Shape) → done (inst_at p s) ≡ made (legal_def p s)
+made_of p s = by_test (legal_def p s) (λ l. simp ((legal p s l).1, l)) (λ l. simp (illegal p s l, l))
+
+pub with_shape : (p : Profile) (w : ℕ) (s : Shape) → shape_at w ≡ Ok s → done (illegal_def p w) ≡ made (legal_def p s)
+unfolding illegal_def
+with_shape p w s e = ap (λ (k : Answer Shape). done (read_shape p k)) e ∙ made_of p s
+
+-- an answer is refused as what is left of it is
+pub undone : {X : Type 0} (r : Answer X) (e : Refusal) → done r ≡ Err e → r ≡ Err e
+undone (Ok x) e q = no_value e _ (sym q)
+undone (Err f) e q = ap Err (same_refusal q)
+
+-- so there are no others
+pub refused : (p : Profile) (w : ℕ) (e : Refusal) → illegal_def p w ≡ Err e → OneOf (refusal.Unknown ∷ refusal.InvalidCsrOp ∷ []) e
+refused p w e = go (shape_at w) refl
   where
-    go : (k : Answer Shape) → shape_for p i ≡ k → write_shape k ≡ Err n → k ≡ Err n
-    go (Ok s) e q = no_word n (sym q ∙ (checked_word p (own_shape i) s e).1.0)
-    go (Err m) e q = ap Err (same_refused q)
+    go : (k : Answer Shape) → shape_at w ≡ k → illegal_def p w ≡ Err e → OneOf (refusal.Unknown ∷ refusal.InvalidCsrOp ∷ []) e
+    go (Ok s) a q =
+        on (λ (k : Answer (Unit {0})). k ≡ Err e → OneOf (refusal.Unknown ∷ refusal.InvalidCsrOp ∷ []) e) (legal_def p s) (λ _ z. no_value e tt (sym z))
+        (λ _ z. inr (inl (sym (same_refusal z)))) (sym (with_shape p w s a) ∙ ap done q)
+    go (Err f) a q = inl (sym (same_refusal (sym (without_shape p w f a) ∙ q)))
+
+-- ---- writing: the checks' own refusals, and no other, since whatever passes the checks has a word
+-- an instruction is refused exactly where document 01's checks, in their order, refuse it, and as they do
+pub by_checks : (p : Profile) (i : IllegalInst) (e : Refusal) → (encode_illegal_def p i ≡ Err e) ↔ (shape_for p i ≡ Err e)
+unfolding encode_illegal_def
+by_checks p i e = (go (shape_for p i) refl, ap write_shape)
+  where
+    go : (k : Answer Shape) → shape_for p i ≡ k → write_shape k ≡ Err e → k ≡ Err e
+    go (Ok s) a q = no_value e _ (sym q ∙ (checked_word p (own_shape i) s a).1.0)
+    go (Err m) a q = ap Err (same_refusal q)
 
 -- document 01: "Writing checks 6, 7, 8 for CSR forms, 6 for fences"
-pub numbers : (p : Profile) (i : IllegalInst) → RefusesBy (6 ∷ 7 ∷ 8 ∷ []) (encode_illegal_def p i)
-numbers p i n e = check_numbers p (own_shape i) n ((by_checks p i n).0 e)
+pub numbers : (p : Profile) (i : IllegalInst) → RefusesBy checking_refusals (encode_illegal_def p i)
+numbers p i e q = check_numbers p (own_shape i) e ((by_checks p i e).0 q)

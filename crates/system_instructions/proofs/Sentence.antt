@@ -1,6 +1,9 @@
 -- Demand 3's last sentence: on which grounds a word in CSR form is refused as InvalidCsrOp. Assumes nothing.
-use Rattle.utils.proofs.Prelude.{◌≡◌, refl, sym, ap, ◌∙◌, ◌⊎◌, inl, inr, ⊎_elim, ◌↔◌, Bool, true, false, ◌&&◌, ◌||◌, not, cond, false≢true, ℕ, ◌%◌, arith, eqb}
-use Rattle.std.proofs.Common.{Ok}
+use Rattle.utils.proofs.Prelude.{◌≡◌, refl, sym, ap, ◌∙◌, ◌⊎◌, inl, inr, ⊎_elim, ◌↔◌, Bool, true, false, ◌&&◌, ◌||◌, not, false≢true, ℕ, ◌%◌, arith, eqb}
+use Rattle.std.proofs.Common.{Ok, Err}
+use Rattle.refusals.specs.Answer.{Answer, done}
+use Rattle.refusals.specs.declared.Refusal.TheVariants as refusal
+use Rattle.refusals.proofs.Answers.{no_value}
 use Rattle.utils.proofs.Prelude.{eq-eqb, ne_eqb, eqb-true, eqb-false, not-true}
 use Rattle.utils.specs.Field.{fld}
 use Rattle.utils.proofs.Digits.{fld_lt}
@@ -10,10 +13,10 @@ use Rattle.utils.proofs.Tests.{both, join}
 use Rattle.system_decoder.specs.declared.CsrOp.{CsrOp, TheVariants.Write, TheVariants.Set, TheVariants.Clear}
 use Rattle.system_decoder.specs.declared.Shape.TheVariants.{Access as access}
 use Rattle.system_decoder.specs.System.{op_code, funct3, read_only, always, barred_def, shape_at}
-use Rattle.system_instructions.specs.Instruction.{illegal_def, number_of}
+use Rattle.system_instructions.specs.Instruction.{illegal_def}
 use Rattle.system_instructions.specs.Grounds.{CsrForm, address, ReadOnlyWrite, Grounds, Invalid}
 use Rattle.system_decoder.proofs.SystemForms.{past_wholes, unfit_csr, at_access, one_of_six, op_of, low_two}
-use Rattle.system_instructions.proofs.Numbers.{with_shape}
+use Rattle.system_instructions.proofs.Numbers.{made, with_shape, undone}
 
 -- ---- the sentence
 -- k is bits 13:12, x the rs1 field
@@ -27,16 +30,16 @@ written Write k x e q = refl
 written Set k x e q = ⊎_elim (λ z. absurd (omega arith)) (λ n. ap not (ne_eqb x 0 n)) q
 written Clear k x e q = ⊎_elim (λ z. absurd (omega arith)) (λ n. ap not (ne_eqb x 0 n)) q
 
--- 2 is the number exactly where the register is not available or the access is barred
-abbrev number : Bool → Bool → ℕ
-number b t = cond (not b && t) 0 2
+-- the answer where b says that the access is barred, and t that the register is available
+abbrev answer : Bool → Bool → Answer (Unit {0})
+answer b t = made (not b && t)
 
-has_grounds : (b t : Bool) → number b t ≡ 2 → (t ≡ false) ⊎ (b ≡ true)
+has_grounds : (b t : Bool) → answer b t ≡ Err refusal.InvalidCsrOp → (t ≡ false) ⊎ (b ≡ true)
 has_grounds true t e = inr refl
-has_grounds false true e = absurd (omega arith)
+has_grounds false true e = no_value refusal.InvalidCsrOp _ (sym e)
 has_grounds false false e = inl refl
 
-is_refused : (b t : Bool) → (t ≡ false) ⊎ (b ≡ true) → number b t ≡ 2
+is_refused : (b t : Bool) → (t ≡ false) ⊎ (b ≡ true) → answer b t ≡ Err refusal.InvalidCsrOp
 is_refused true t e = refl
 is_refused false true e = ⊎_elim (λ q. absurd (false≢true (sym q))) (λ q. absurd (false≢true q)) e
 is_refused false false e = refl
@@ -64,13 +67,13 @@ module _ (w : ℕ) (f : CsrForm w) where
   )
 
 module _ (p : Profile) (w : ℕ) (f : CsrForm w) where
-  is : number_of (illegal_def p w) ≡ number (test w f) (available p (address w))
+  is : done (illegal_def p w) ≡ answer (test w f) (available p (address w))
   is = with_shape p w _ (csr_shape w f)
 
   -- a word in CSR form is refused as InvalidCsrOp exactly when its address names no register available under the profile, or it would write a
   -- read-only one
   pub sentence : Invalid p w ↔ Grounds p w
   sentence = (
-    λ e. ⊎_elim inl (λ q. inr ((barred w f).0 q)) (has_grounds (test w f) (available p (address w)) (sym is ∙ e)),
-    λ g. is ∙ is_refused (test w f) (available p (address w)) (⊎_elim inl (λ q. inr ((barred w f).1 q)) g),
+    λ e. ⊎_elim inl (λ q. inr ((barred w f).0 q)) (has_grounds (test w f) (available p (address w)) (sym is ∙ ap done e)),
+    λ g. undone _ _ (is ∙ is_refused (test w f) (available p (address w)) (⊎_elim inl (λ q. inr ((barred w f).1 q)) g)),
   )

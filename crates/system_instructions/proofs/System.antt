@@ -14,7 +14,8 @@ use Rattle.csrs.proofs.Laws.{found_idx, found_lt, own, available_found, found_av
 use Rattle.forms.specs.Meaning.{read_of}
 use Rattle.forms.specs.Demand3.{RefusedExactly, OnlyWord}
 use Rattle.utils.proofs.Tests.{on}
-use Rattle.forms.proofs.AnyReader.{no_word, refused_by, only_by}
+use Rattle.forms.proofs.AnyReader.{refused_by, only_by}
+use Rattle.refusals.proofs.Answers.{no_value}
 use Rattle.forms.proofs.Demand3
 use Rattle.system_decoder.specs.declared.CsrOp.{CsrOp, TheVariants.Write, TheVariants.Set, TheVariants.Clear}
 use Rattle.system_decoder.specs.declared.Fence.{Fence, TheVariants.Vma, TheVariants.Vvma, TheVariants.Gvma}
@@ -36,20 +37,17 @@ pub record Legal (p : Profile) (o : CsrOp) (m : Bool) (a d x : ℕ) (i : Illegal
   pub at : decode_csr_def p a ≡ Ok csr
   pub is : inst_of o m csr d x ≡ i
 
-invalid_no : {X : Type 0} {i : IllegalInst} → (Err refusal.InvalidCsrOp) ≡ Ok i → X
-invalid_no e = absurd (let z : ◌≡◌ {A = ℕ} 0 1 = cc in omega arith)
-
 pub legal : (p : Profile) (o : CsrOp) (m : Bool) (a d x : ℕ) (i : IllegalInst) → inst_at p (access o m a d x) ≡ Ok i → Legal p o m a d x i
 legal p o m a d x i = go (barred_def a (always o) x) refl
   where
-    made : (c : Csr) → Ok (inst_of o m c d x) ≡ Ok i → inst_of o m c d x ≡ i
+    made : (c : Csr) → ◌≡◌ {A = Answer IllegalInst} (Ok (inst_of o m c d x)) (Ok i) → inst_of o m c d x ≡ i
     made c e = cc
 
     go : (b : Bool) → barred_def a (always o) x ≡ b → cond b (Err refusal.InvalidCsrOp) (found_def (decode_csr_def p a) o m d x) ≡ Ok i → Legal p o m a d x i
-    go true q e = invalid_no e
+    go true q e = no_value refusal.InvalidCsrOp i e
     go false q e =
         ⊎_elim (λ t. record { csr = t.0; free = q; at = t.1; is = made t.0 (sym (ap (λ k. found_def k o m d x) t.1) ∙ e) })
-        (λ n. invalid_no (sym (none_found (λ c. Ok (inst_of o m c d x)) (Err refusal.InvalidCsrOp) p a n) ∙ e)) (look p a)
+        (λ n. no_value refusal.InvalidCsrOp i (sym (none_found (λ c. Ok (inst_of o m c d x)) (Err refusal.InvalidCsrOp) p a n) ∙ e)) (look p a)
 
 pub own_fence : (f : Fence) (a b : ℕ) → own_shape (fence_of f a b) ≡ fence f a b
 own_fence Vma a b = refl
@@ -132,7 +130,7 @@ read_then_write p w i q h = go (read_of system meaning w) refl (ap (read_shape p
   where
     go : (k : Answer Shape) → read_of system meaning w ≡ k → read_shape p k ≡ Ok i → encode_illegal_def p i ≡ Ok w
     go (Ok s) e r = ap write_shape (inst_back p s i (read_low system refl refl w s e) r) ∙ Demand3.read_then_write system meaning system_sound faithful w s e h
-    go (Err n) e r = absurd (let z : ◌≡◌ {A = ℕ} 0 1 = cc in omega arith)
+    go (Err n) e r = no_value refusal.Unknown i r
 
 -- the word that an instruction is written as is below 2^32, and is read as the instruction
 pub write_then_read : (p : Profile) (i : IllegalInst) (w : ℕ) → encode_illegal_def p i ≡ Ok w → (w < 2 ^ 32) × (illegal_def p w ≡ Ok i)
@@ -143,7 +141,7 @@ write_then_read p i w = go (shape_for p i) refl
     go (Ok s) e q =
         let t = Demand3.write_then_read system meaning system_sound faithful s w q in
         (t.0, ap (read_shape p) (short_word w t.0 ∙ t.1) ∙ inst_forth p i s e)
-    go (Err n) e q = no_word n q
+    go (Err n) e q = no_value n w q
 
 -- writing an instruction is refused exactly when no word below 2^32 is read as the instruction
 pub refused_exactly : (p : Profile) (i : IllegalInst) → RefusedExactly (λ x. illegal_def p x ≡ Ok i) (2 ^ 32) (encode_illegal_def p i)

@@ -6,7 +6,7 @@ use Rattle.refusals.specs.declared.Refusal.TheVariants as refusal
 use Rattle.utils.specs.Field.{fld}
 use Rattle.profiles.specs.declared.Profile.{Profile}
 use Rattle.csrs.specs.Gates.{available}
-use Rattle.system_instructions.specs.Instruction.{illegal_def, number_of}
+use Rattle.system_instructions.specs.Instruction.{illegal_def}
 
 -- low seven bits 0x73, bits 13:12 not zero
 abbrev pub CsrForm : ℕ → Type 0
@@ -34,4 +34,4 @@ Grounds p w = (available p (address w) ≡ false) ⊎ ReadOnlyWrite w
 
 -- refused as InvalidCsrOp
 abbrev pub Invalid : Profile → ℕ → Type 0
-Invalid p w = number_of (illegal_def p w) ≡ number_of (Err refusal.InvalidCsrOp)
+Invalid p w = illegal_def p w ≡ Err refusal.InvalidCsrOp

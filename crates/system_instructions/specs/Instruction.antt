@@ -21,12 +21,6 @@ use Rattle.system_encoder.specs.System.{checked_def, write_shape}
 use Rattle.system_instructions.specs.declared.IllegalInst.{IllegalInst}
 use Rattle.system_instructions.specs.declared.IllegalInst.TheVariants.{Wfi, Csrrw, Csrrs, Csrrc, Csrrwi, Csrrsi, Csrrci, Mret, Sret, Sfencevma, Hfencevvma, Hfencegvma}
 
--- document 01's number for each answer; 0 is no refusal
-abbrev pub number_of : Answer IllegalInst → ℕ
-number_of (Ok i) = 0
-number_of (Err refusal.Unknown) = 1
-number_of (Err refusal.InvalidCsrOp) = 2
-
 -- ---- what a profile makes of a shape
 abbrev pub register : ℕ → Register
 register n = record { 0 = n }
@@ -57,7 +51,7 @@ inst_at p (access o m a d x) = cond (barred_def a (always o) x) (Err refusal.Inv
 -- ---- the reading
 abbrev pub read_shape : Profile → Answer Shape → Answer IllegalInst
 read_shape p (Ok s) = inst_at p s
-read_shape p (Err n) = (Err refusal.Unknown)
+read_shape p (Err n) = Err refusal.Unknown
 
 unfoldable pub illegal_def : Profile → ℕ → Answer IllegalInst
 illegal_def p w = read_shape p (shape_at w)
