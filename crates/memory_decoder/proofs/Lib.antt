@@ -1,4 +1,4 @@
 pub mod Lengths
-pub mod Reading
+pub mod Immediates
 pub mod Accepts
 pub mod Numbers

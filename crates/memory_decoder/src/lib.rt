@@ -6,7 +6,7 @@ ghost use Rattle.std.specs.Prelude.{◌≡◌, ◌+◌, ◌%◌, ◌^◌, ◌<�
 ghost use Rattle.utils.specs.Field.{fld};
 ghost use Rattle.utils.specs.Signed.{signed};
 ghost use Rattle.forms.specs.Layout.{read, imm};
-ghost use Rattle.memory_decoder.specs.Forms.{c_lw, c_ld, c_lwsp, c_ldsp, c_swsp, c_sdsp};
+ghost use Rattle.memory_decoder.specs.Forms.{store, c_lw, c_ld, c_lwsp, c_ldsp, c_swsp, c_sdsp};
 ghost use Rattle.memory_decoder.specs.Funct3.{width_of};
 ghost use Rattle.memory_decoder.specs.Load.{load_def, uncompressed_load_def, compressed_load_def};
 ghost use Rattle.memory_decoder.specs.Store.{store_def, uncompressed_store_def, compressed_store_def};
@@ -65,6 +65,7 @@ pub struct StoreInstr {
 }
 
 // Decodes a raw read RISC-V instruction.
+#[tactic(auto, unfolding(crate::specs::Load::load_def))]
 pub fn decode_load(ctx: Profile, raw: usize) -> Result<LoadInstr, Refusal>
     ensures { result ≡ load_def ctx raw }
 {
@@ -75,6 +76,7 @@ pub fn decode_load(ctx: Profile, raw: usize) -> Result<LoadInstr, Refusal>
 }
 
 // Decodes a raw write RISC-V instruction.
+#[tactic(auto, unfolding(crate::specs::Store::store_def))]
 pub fn decode_store(ctx: Profile, raw: usize) -> Result<StoreInstr, Refusal>
     ensures { result ≡ store_def ctx raw }
 {
@@ -85,6 +87,7 @@ pub fn decode_store(ctx: Profile, raw: usize) -> Result<StoreInstr, Refusal>
 }
 
 // Decodes a compressed load. A word of 32 bits is not of the form.
+#[tactic(auto, unfolding(crate::specs::Load::load_def))]
 pub fn decode_compressed_load(ctx: Profile, raw: usize) -> Result<LoadInstr, Refusal>
     ensures { result ≡ compressed_load_def ctx raw }
 {
@@ -97,6 +100,7 @@ pub fn decode_compressed_load(ctx: Profile, raw: usize) -> Result<LoadInstr, Ref
     }
 }
 
+#[tactic(auto, unfolding(crate::specs::Load::load_def))]
 fn decode_register_based_compressed_load(ctx: Profile, raw: usize) -> Result<LoadInstr, Refusal>
     requires { raw % 2 ^ 2 ≡ 0b00 }
     ensures { result ≡ compressed_load_def ctx raw }
@@ -126,6 +130,7 @@ fn decode_register_based_compressed_load(ctx: Profile, raw: usize) -> Result<Loa
     }
 }
 
+#[tactic(auto, unfolding(crate::specs::Load::load_def))]
 fn decode_stack_based_compressed_load(ctx: Profile, raw: usize) -> Result<LoadInstr, Refusal>
     requires { raw % 2 ^ 2 ≡ 0b10 }
     ensures { result ≡ compressed_load_def ctx raw }
@@ -159,6 +164,7 @@ fn decode_stack_based_compressed_load(ctx: Profile, raw: usize) -> Result<LoadIn
 }
 
 // Decodes a compressed store. A word of 32 bits is not of the form.
+#[tactic(auto, unfolding(crate::specs::Store::store_def))]
 pub fn decode_compressed_store(ctx: Profile, raw: usize) -> Result<StoreInstr, Refusal>
     ensures { result ≡ compressed_store_def ctx raw }
 {
@@ -171,6 +177,7 @@ pub fn decode_compressed_store(ctx: Profile, raw: usize) -> Result<StoreInstr, R
     }
 }
 
+#[tactic(auto, unfolding(crate::specs::Store::store_def))]
 fn decode_register_based_compressed_store(ctx: Profile, raw: usize) -> Result<StoreInstr, Refusal>
     requires { raw % 2 ^ 2 ≡ 0b00 }
     ensures { result ≡ compressed_store_def ctx raw }
@@ -198,6 +205,7 @@ fn decode_register_based_compressed_store(ctx: Profile, raw: usize) -> Result<St
     }
 }
 
+#[tactic(auto, unfolding(crate::specs::Store::store_def))]
 fn decode_stack_based_compressed_store(ctx: Profile, raw: usize) -> Result<StoreInstr, Refusal>
     requires { raw % 2 ^ 2 ≡ 0b10 }
     ensures { result ≡ compressed_store_def ctx raw }
@@ -225,6 +233,7 @@ fn decode_stack_based_compressed_store(ctx: Profile, raw: usize) -> Result<Store
 }
 
 // Decodes a load of 32 bits. A compressed word is not of the form.
+#[tactic(auto, unfolding(crate::specs::Load::load_def))]
 pub fn decode_uncompressed_load(ctx: Profile, raw: usize) -> Result<LoadInstr, Refusal>
     ensures { result ≡ uncompressed_load_def ctx raw }
 {
@@ -250,6 +259,7 @@ pub fn decode_uncompressed_load(ctx: Profile, raw: usize) -> Result<LoadInstr, R
 }
 
 // Decodes a store of 32 bits. A compressed word is not of the form.
+#[tactic(auto, unfolding(crate::specs::Store::store_def))]
 pub fn decode_uncompressed_store(ctx: Profile, raw: usize) -> Result<StoreInstr, Refusal>
     ensures { result ≡ uncompressed_store_def ctx raw }
 {
@@ -262,14 +272,11 @@ pub fn decode_uncompressed_store(ctx: Profile, raw: usize) -> Result<StoreInstr,
     }
     let rs1 = registers::register_at(raw, 15);
     let rs2 = registers::register_at(raw, 20);
-    let imm_4_0 = (raw >> 7) & 0b11111;
-    let imm_11_5 = ((raw >> 25) & 0b1111111) << 5;
-    let imm = utils::bits_to_int(imm_11_5 | imm_4_0, 0);
 
     Ok(StoreInstr {
         rs2,
         rs1,
-        imm,
+        imm: store_imm(raw),
         len: width_of(func3),
         is_compressed: false,
     })
@@ -281,6 +288,15 @@ fn compressed_register_at(raw: usize, k: usize) -> Register
     ensures { result ≡ record { 0 = 8 + fld raw k 3 } }
 {
     Register::from(((raw >> k) & 0b111) + 8)
+}
+
+// The immediate of a store of 32 bits.
+fn store_imm(raw: usize) -> isize
+    ensures { result ≡ signed 2048 (read store raw imm) }
+{
+    let imm_4_0 = (raw >> 7) & 0b11111;
+    let imm_11_5 = ((raw >> 25) & 0b1111111) << 5;
+    utils::bits_to_int(imm_11_5 | imm_4_0, 0)
 }
 
 // The immediate of C.LW, which is C.SW's too.
