@@ -1,5 +1,6 @@
 -- The answer for two tables is one alone; and what its functions know of it. Assumes nothing.
-use Rattle.utils.proofs.Prelude.{◌≡◌, sym, ap, ◌∙◌, subst, Bool, true, false, ◌&&◌, List, ℕ, ◌*◌, ◌^◌, eqb, length, eq-eqb, ne_eqb}
+use Rattle.utils.proofs.Prelude.{◌≡◌, sym, ap, ◌∙◌, subst, Bool, true, false, ◌&&◌, List, ℕ, eqb, length, eq-eqb}
+use Rattle.std.proofs.Common.{Option}
 use Rattle.differences.specs.declared.Difference.{Difference}
 use Rattle.harts.specs.declared.Table.{Table}
 use Rattle.harts.specs.Table.{table_of}
@@ -15,19 +16,9 @@ compared_once false s t r q f g = f ∙ sym g
 pub differ_once : (s t : List ℕ) (r q : ℕ) → TablesDiffer s t r → TablesDiffer s t q → r ≡ q
 differ_once s t = compared_once (eqb (length s) 80 && eqb (length t) 80) s t
 
-module _ (s t : List ℕ) (r : ℕ) where
-  by_lengths : (b : Bool) → (eqb (length s) 80 && eqb (length t) 80) ≡ b → Compared b s t r → TablesDiffer s t r
-  by_lengths b e = subst (λ (c : Bool). Compared c s t r) (sym e)
-
-  pub first_short : (length s ≡ 80 → ⊥) → r ≡ 14 * 2 ^ 32 → TablesDiffer s t r
-  first_short h = by_lengths false (rw (ne_eqb (length s) 80 h))
-
-  module _ (e : length s ≡ 80) where
-    pub second_short : (length t ≡ 80 → ⊥) → r ≡ 14 * 2 ^ 32 → TablesDiffer s t r
-    second_short h = by_lengths false (rw (eq-eqb (length s) 80 e, ne_eqb (length t) 80 h))
-
-    pub both_long : length t ≡ 80 → {a b : Table} (d : Difference) → a ≡ table_of s → b ≡ table_of t → FirstDifference a b d → r ≡ place d
-        → TablesDiffer s t r
-    both_long f {a} {b} d p q h k =
-        by_lengths true (rw (eq-eqb (length s) 80 e, eq-eqb (length t) 80 f))
-        (d, (subst (λ (x : Table). FirstDifference x (table_of t) d) p (subst (λ (x : Table). FirstDifference a x d) q h), k))
+-- and it is the place of what the search finds in two tables of 80 bytes
+pub both_long : (s t : List ℕ) (r : ℕ) → length s ≡ 80 → length t ≡ 80 → {a b : Table} (d : Option Difference) → a ≡ table_of s → b ≡ table_of t
+    → FirstDifference a b d → r ≡ place d → TablesDiffer s t r
+both_long s t r e f {a} {b} d p q h k =
+    rw (eq-eqb (length s) 80 e, eq-eqb (length t) 80 f)
+    (d, (subst (λ (x : Table). FirstDifference x (table_of t) d) p (subst (λ (x : Table). FirstDifference a x d) q h), k))

@@ -1,11 +1,13 @@
 -- The answers for an address and for two tables, and a value's sign copied upwards by a width in bytes.
 use Rattle.std.specs.Prelude.{◌≡◌, ℕ, ◌+◌, ◌*◌, ◌^◌, Bool, true, false, ◌&&◌, List, length, ◌==◌}
-use Rattle.std.specs.Prelude.{Result, Ok, Err}
+use Rattle.std.specs.Prelude.{Option, Some, None, Result, Ok, Err}
+use Rattle.csr_addresses.specs.declared.Csr.{Csr}
 use Rattle.csrs.specs.declared.Absent.{Absent}
+use Rattle.csrs.specs.declared.Absent.TheVariants.{GateOff, NoSuch}
+use Rattle.utils.specs.declared.Width.{Width}
 use Rattle.utils.specs.declared.UnknownWidth.{UnknownWidth}
 use Rattle.utils.specs.Width.{extended, half_of}
 use Rattle.differences.specs.declared.Difference.{Difference}
-use Rattle.differences.specs.declared.Difference.TheVariants.{At, Nowhere}
 use Rattle.harts.specs.Table.{table_of}
 use Rattle.differences.specs.Difference.{FirstDifference}
 
@@ -17,13 +19,16 @@ lookup_code (Err NoSuch) = 3
 
 -- ---- tables
 -- the first difference as hart * 4096 + address, 32768 for none
-abbrev pub place : Difference → ℕ
-place (At h a) = h * 4096 + a
-place Nowhere = 32768
+abbrev pub place_of : Difference → ℕ
+place_of d = d.hart * 4096 + d.csr
+
+abbrev pub place : Option Difference → ℕ
+place (Some d) = place_of d
+place None = 32768
 
 -- r is the answer for two tables: where both have 80 bytes, the place of the one first difference (proofs/Tables says that it is one), else 14
 abbrev pub Compared : Bool → List ℕ → List ℕ → ℕ → Type 0
-Compared true s t r = (d : Difference) × (FirstDifference (table_of s) (table_of t) d × (r ≡ place d))
+Compared true s t r = (d : Option Difference) × (FirstDifference (table_of s) (table_of t) d × (r ≡ place d))
 Compared false s t r = r ≡ 14 * 2 ^ 32
 
 abbrev pub TablesDiffer : List ℕ → List ℕ → ℕ → Type 0

@@ -7,9 +7,10 @@ ghost use Rattle.utils.specs.Width.{width_from};
 ghost use Rattle.csrs.specs.Gates.{decode_csr_def, available};
 ghost use Rattle.csrs.specs.Count.{count_def};
 ghost use Rattle.abi.specs.Abi.{profile};
-ghost use Rattle.matnosoru_csrs.specs.Csrs.{lookup_code, TablesDiffer, extended_by};
+ghost use Rattle.matnosoru_csrs.specs.Csrs.{lookup_code, place_of, TablesDiffer, extended_by};
 
 use csrs::Absent;
+use differences::Difference;
 use refusals::Refusal;
 use utils::Width;
 
@@ -29,11 +30,7 @@ pub extern "C" fn matnosoru_version() -> u64
 pub extern "C" fn matnosoru_csr(flags: u64, custom: u64, address: u64) -> u64
     ensures { result ≡ (if available (profile flags custom) address then 1 else 0) }
 {
-    if csrs::is_available(abi::profile_of(flags, custom), address as usize) {
-        1
-    } else {
-        0
-    }
+    u64::from(csrs::is_available(abi::profile_of(flags, custom), address as usize))
 }
 
 // What an address has: 1 a CSR that is available, 2 one that only other profiles make available, 3 none.
@@ -61,23 +58,20 @@ pub extern "C" fn matnosoru_csr_count(flags: u64, custom: u64) -> u64
 pub extern "C" fn matnosoru_tables_differ(a: &[u8], b: &[u8]) -> u64
     ensures { TablesDiffer a.now b.now result }
 {
-    if a.len() != 80 {
-        return refusals::refusal(Refusal::OutputShort);
-    }
-    if b.len() != 80 {
-        return refusals::refusal(Refusal::OutputShort);
+    if a.len() != 80 || b.len() != 80 {
+        return refusals::crossed(Err(Refusal::OutputShort));
     }
     match differences::first_difference(harts::table_of(a), harts::table_of(b)) {
-        Difference::At { hart, csr } => place_of(hart, csr),
-        Difference::Nowhere => 32768,
+        Some(first) => place_of(first),
+        None => 32768,
     }
 }
 
-fn place_of(hart: usize, csr: usize) -> u64
-    requires { (hart < 8) × (csr < 4096) }
-    ensures { result ≡ hart * 4096 + csr }
+fn place_of(first: Difference) -> u64
+    requires { (first.hart < 8) × (first.csr < 4096) }
+    ensures { result ≡ place_of first }
 {
-    (hart * 4096 + csr) as u64
+    (first.hart * 4096 + first.csr) as u64
 }
 
 // A value of so many bytes with its sign copied upwards; a number of bytes that is no width leaves it.
@@ -88,9 +82,9 @@ pub extern "C" fn matnosoru_sign_extend(value: u64, bytes: u64) -> u64
     if 8 < bytes {
         return value;
     }
-    match Width::from(8 * bytes as usize) {
+    match Width::try_from(8 * bytes as usize) {
         Ok(width) => utils::sign_extend(value as usize, width) as u64,
-        Err(UnknownWidth(value)) => value,
+        Err(_) => value,
     }
 }
 
@@ -99,5 +93,5 @@ pub extern "C" fn matnosoru_sign_extend(value: u64, bytes: u64) -> u64
 pub extern "C" fn matnosoru_calculate_addr(base: u64, imm: u64) -> u64
     ensures { result ≡ (base + imm) % 2 ^ 64 }
 {
-    std::num::wrapping_add_u64(base, imm)
+    base.wrapping_add(imm)
 }
