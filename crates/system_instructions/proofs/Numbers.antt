@@ -1,5 +1,5 @@
 -- Which refusals the SYSTEM reading has: 1 where the word has no shape, 2 where the profile makes no instruction of its shape. Assumes nothing.
-use Rattle.utils.proofs.Prelude.{◌≡◌, refl, sym, ap, ◌∙◌, inl, inr, ◌↔◌, Bool, cond, [], ◌∷◌, ℕ, ◌^◌, ltb}
+use Rattle.utils.proofs.Prelude.{◌≡◌, refl, sym, ap, ◌∙◌, inl, inr, ◌↔◌, Bool, cond, List, [], ◌∷◌, ℕ, ◌^◌, ltb}
 use Rattle.std.proofs.Common.{Ok, Err}
 use Rattle.refusals.specs.Answer.{Answer, done}
 use Rattle.refusals.specs.declared.Refusal.{Refusal}
@@ -52,13 +52,16 @@ pub undone : {X : Type 0} (r : Answer X) (e : Refusal) → done r ≡ Err e → 
 undone (Ok x) e q = no_value e _ (sym q)
 undone (Err f) e q = ap Err (same_refusal q)
 
--- so there are no others
-pub refused : (p : Profile) (w : ℕ) (e : Refusal) → illegal_def p w ≡ Err e → OneOf (refusal.Unknown ∷ refusal.InvalidCsrOp ∷ []) e
+-- so there are no others: document 01's 1 and 2
+abbrev pub system_refusals : List Refusal
+system_refusals = refusal.Unknown ∷ refusal.InvalidCsrOp ∷ []
+
+pub refused : (p : Profile) (w : ℕ) (e : Refusal) → illegal_def p w ≡ Err e → OneOf system_refusals e
 refused p w e = go (shape_at w) refl
   where
-    go : (k : Answer Shape) → shape_at w ≡ k → illegal_def p w ≡ Err e → OneOf (refusal.Unknown ∷ refusal.InvalidCsrOp ∷ []) e
+    go : (k : Answer Shape) → shape_at w ≡ k → illegal_def p w ≡ Err e → OneOf system_refusals e
     go (Ok s) a q =
-        on (λ (k : Answer (Unit {0})). k ≡ Err e → OneOf (refusal.Unknown ∷ refusal.InvalidCsrOp ∷ []) e) (legal_def p s) (λ _ z. no_value e tt (sym z))
+        on (λ (k : Answer (Unit {0})). k ≡ Err e → OneOf system_refusals e) (legal_def p s) (λ _ z. no_value e tt (sym z))
         (λ _ z. inr (inl (sym (same_refusal z)))) (sym (with_shape p w s a) ∙ ap done q)
     go (Err f) a q = inl (sym (same_refusal (sym (without_shape p w f a) ∙ q)))
 
