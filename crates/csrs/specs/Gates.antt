@@ -20,7 +20,7 @@ use Rattle.csr_addresses.specs.Find.{find}
 use Rattle.csr_addresses.specs.Address.{idx_def}
 use Rattle.profiles.specs.declared.Profile.{Profile}
 use Rattle.csrs.specs.declared.Gate.{Gate}
-use Rattle.csrs.specs.declared.Gate.TheVariants.{Always, Zicntr, Zihpm, Tee, Smode, Hmode, Sstc, Vector, Crypto, MaskBit}
+use Rattle.csrs.specs.declared.Gate.TheVariants.{Always, Zicntr, Zihpm, Tee, Smode, Hmode, Sstc, Vector, Crypto, MaskBit, Never}
 use Rattle.profiles.specs.Profile.{bit_at}
 
 abbrev pub allows_def : Profile → Gate → Bool
@@ -34,6 +34,7 @@ allows_def p Sstc = p.is_sstc_enabled
 allows_def p Vector = p.has_v_extension
 allows_def p Crypto = p.has_crypto_extension
 allows_def p (MaskBit k) = bit_at p.custom k
+allows_def p Never = false
 
 -- a group of the table: a gate and its registers, family by family
 pub data Group : Type 0 where
@@ -115,14 +116,14 @@ abbrev pub SomeProfile : ℕ → Type 0
 SomeProfile a = (p : Profile) × ((p.custom < 2 ^ 64) × (available p a ≡ true))
 
 -- ---- the parts
--- the gate of the row at a register's address; where there is no row, a bit that no mask has
+-- the gate of the row at a register's address; where there is no row, what no profile has
 abbrev pub gate_in : Option Row → Gate
 gate_in (Some r) = r.gate
-gate_in None = MaskBit 64
+gate_in None = Never
 
 abbrev pub gate_def : Answer ℕ → Gate
 gate_def (Ok a) = gate_in (spot_def a)
-gate_def (Err n) = MaskBit 64
+gate_def (Err e) = Never
 
 -- the registers that have an address and no row
 abbrev pub nevers : List Csr

@@ -10,7 +10,7 @@ ghost use Rattle.csrs.specs.Count.{count_def};
 use csr_addresses::{Csr, address};
 use profiles::Profile;
 
-// What a register waits for: nothing, a flag of the profile, or a bit of its custom mask.
+// What a register waits for: nothing, a flag of the profile, a bit of its custom mask, or what no profile has.
 #[derive(Clone, Copy)]
 pub enum Gate {
     Always,
@@ -23,6 +23,7 @@ pub enum Gate {
     Vector,
     Crypto,
     MaskBit(usize),
+    Never,
 }
 
 // What the look-up has at an address: a register, and what it waits for.
@@ -56,6 +57,7 @@ fn allows(ctx: Profile, gate: Gate) -> bool
         Gate::Vector => ctx.has_v_extension,
         Gate::Crypto => ctx.has_crypto_extension,
         Gate::MaskBit(k) => profiles::bit_at(ctx.custom, k),
+        Gate::Never => false,
     }
 }
 
@@ -90,9 +92,8 @@ fn gate_of(register: Csr) -> Gate
         Csr::Vl | Csr::Vtype | Csr::Vlenb => Gate::Vector,
         Csr::Seed => Gate::Crypto,
         Csr::Custom(addr) => Gate::MaskBit(addr - address::CUSTOM0),
-        // No profile makes these available: a mask has no bit 64
-        Csr::Tdata1 | Csr::Tdata2 | Csr::Tdata3 | Csr::Mcontext => Gate::MaskBit(64),
-        Csr::Dcsr | Csr::Dpc | Csr::Dscratch0 | Csr::Dscratch1 => Gate::MaskBit(64),
+        Csr::Tdata1 | Csr::Tdata2 | Csr::Tdata3 | Csr::Mcontext => Gate::Never,
+        Csr::Dcsr | Csr::Dpc | Csr::Dscratch0 | Csr::Dscratch1 => Gate::Never,
     }
 }
 
