@@ -1,6 +1,6 @@
 -- Dropping the reason of a refused CSR form: whoever makes one thing of all reasons asks no more than whether the register is available, and whether
 -- the access is barred. Assumes nothing.
-use Rattle.utils.proofs.Prelude.{◌≡◌, refl, sym, ap, ◌∙◌, Bool, true, false, ◌&&◌, not, cond, ℕ}
+use Rattle.utils.proofs.Prelude.{◌≡◌, refl, ◌∙◌, Bool, true, false, ◌&&◌, not, cond}
 use Rattle.std.proofs.Common.{Result, Ok, Err}
 use Rattle.std.specs.Result.{is_ok}
 use Rattle.csrs.specs.declared.Absent.{Absent}
@@ -8,17 +8,11 @@ use Rattle.csrs.specs.declared.Absent.TheVariants.{GateOff, NoSuch}
 use Rattle.profiles.specs.declared.Profile.{Profile}
 use Rattle.csr_addresses.specs.declared.Csr.{Csr}
 use Rattle.csrs.specs.Gates.{decode_csr_def, if_found, is_found, available}
-use Rattle.system_decoder.specs.declared.CsrOp.{CsrOp}
 use Rattle.system_decoder.specs.declared.Reason.{Reason}
 use Rattle.system_decoder.specs.declared.Shape.{Shape}
 use Rattle.system_decoder.specs.declared.Shape.TheVariants.{Wfi as wfi, Mret as mret, Sret as sret, Fence as fence, Access as access}
 use Rattle.system_decoder.specs.System.{always, barred_def, legal_def}
-use Rattle.system_decoder.specs.Reasons.{judged, judged_def, legality_def}
-
--- what an exit knows: w is what `always_writes` gave, b `is_barred`, which is u, and k the look-up
-pub judging : {X : Type 0} (f : Csr → X) (g : Reason → X) (p : Profile) (o : CsrOp) (a x : ℕ) {w b u : Bool} {k : Result Csr Absent} → w ≡ always o → b ≡ barred_def a w x → b ≡ u → k ≡ decode_csr_def p a
-    → judged f g u k ≡ judged_def f g p o a x
-judging f g p o a x e h q l = λ j. judged f g ((sym q ∙ h ∙ ap (λ (y : Bool). barred_def a y x) e) j) (l j)
+use Rattle.system_decoder.specs.Reasons.{judged, legality_def}
 
 -- what h makes of the answer is the answer that h's own values give
 pub judged_by : {X Y : Type 0} (h : X → Y) (f : Csr → X) (g : Reason → X) (b : Bool) (k : Result Csr Absent) → h (judged f g b k) ≡ judged (λ r. h (f r)) (λ y. h (g y)) b k

@@ -1,5 +1,5 @@
 -- What each exit of `shape_at` and of `access_at` knows is what the reading asks there. Assumes nothing.
-use Rattle.utils.proofs.Prelude.{◌≡◌, refl, sym, ap, ◌∙◌, subst, ℕ, ◌+◌, ◌*◌, ◌/◌, ◌%◌, ◌^◌, ◌<◌, add-zero, arith, eqb, and_mask, bit_and}
+use Rattle.utils.proofs.Prelude.{◌≡◌, refl, sym, ap, ◌∙◌, ℕ, ◌+◌, ◌*◌, ◌/◌, ◌%◌, ◌^◌, ◌<◌, add-zero, arith, eqb, and_mask, bit_and}
 use Rattle.std.proofs.Common.{Ok, Err}
 use Rattle.refusals.specs.declared.Refusal.TheVariants as refusal
 use Rattle.utils.specs.Field.{fld}
@@ -12,7 +12,7 @@ use Rattle.system_decoder.specs.declared.UnknownCode.{UnknownCode}
 use Rattle.system_decoder.specs.declared.Fence.{Fence, TheVariants.Vma, TheVariants.Vvma, TheVariants.Gvma}
 use Rattle.system_decoder.specs.Forms.{funct7}
 use Rattle.system_decoder.specs.declared.Shape.{Shape, TheVariants.Fence as fence, TheVariants.Access as access}
-use Rattle.system_decoder.specs.System.{op_code, op_from, FieldsOf, access_at, shape_at}
+use Rattle.system_decoder.specs.System.{op_code, op_from, access_at, shape_at}
 use Rattle.system_decoder.proofs.Codes.{op_back, no_op_code}
 use Rattle.system_decoder.proofs.SystemMasks.{fence_bits, fence_mask}
 use Rattle.system_decoder.proofs.SystemForms.{FenceForm, past_wholes, unfit_other, at_fence, at_access, at_foreign, at_no_op, low_two}
@@ -40,8 +40,8 @@ module _ (w : ℕ) (h : w < 2 ^ 64) (k : ℕ) where
 
 module _ (w : ℕ) (h : w < 2 ^ 64) where
   pub fenced : bit_and w 0x7F ≡ 0x73 → (f : Fence) → bit_and w fence_bits ≡ funct7 f * 2 ^ 25 → {s : Shape} → s ≡ fence f (fld w 15 5) (fld w 20 5)
-      → (Ok s ≡ shape_at w) × FieldsOf w s
-  fenced e f q k = (ap Ok k ∙ sym (at_fence w f (opcode w e) (told_fence w h (funct7 f) q)), subst (FieldsOf w) (sym k) tt)
+      → Ok s ≡ shape_at w
+  fenced e f q k = ap Ok k ∙ sym (at_fence w f (opcode w e) (told_fence w h (funct7 f) q))
 
   -- the word is not WFI, MRET, SRET or a fence
   pub other : (w ≡ 0x10500073 → ⊥) → (w ≡ 0x30200073 → ⊥) → (w ≡ 0x10200073 → ⊥)
@@ -59,23 +59,11 @@ module _ (w : ℕ) where
   pub no_op : w % 2 ^ 7 ≡ 0x73 → {u : UnknownCode} → op_from (bit_and (w / 2 ^ 12) 3) ≡ Err u → Err refusal.Unknown ≡ access_at w
   no_op e q = sym (at_no_op w e (low_two w ∙ sym (mask_field w 12 2) ∙ no_op_code (bit_and (w / 2 ^ 12) 3) (rw (mask_field w 12 2) (fld_lt w 12 2)) q))
 
-  -- the fields that the code has read
-  pub fields : (o : CsrOp) → op_code o ≡ bit_and (w / 2 ^ 12) 3
-      → FieldsOf w (access o (eqb (bit_and (w / 2 ^ 14) 1) 1) (bit_and (w / 2 ^ 20) 4095) (bit_and (w / 2 ^ 7) 31) (bit_and (w / 2 ^ 15) 31))
-  fields o c = (
-    sym (c ∙ mask_field w 12 2),
-    (
-      sym (ap (λ (k : ℕ). bit_of (eqb k 1)) (mask_field w 14 1) ∙ bit_one (fld w 14 1) (fld_lt w 14 1)),
-      (sym (mask_field w 20 12), (sym (mask_field w 7 5), sym (mask_field w 15 5))),
-    ),
-  )
-
   pub accessed : w % 2 ^ 7 ≡ 0x73 → (o : CsrOp) → op_from (bit_and (w / 2 ^ 12) 3) ≡ Ok o
       → Ok (access o (eqb (bit_and (w / 2 ^ 14) 1) 1) (bit_and (w / 2 ^ 20) 4095) (bit_and (w / 2 ^ 7) 31) (bit_and (w / 2 ^ 15) 31)) ≡ access_at w
   accessed e o q =
-      let f = fields o (op_back (bit_and (w / 2 ^ 12) 3) q) in
       (λ j. Ok (access o (eqb (mask_field w 14 1 j) 1) (mask_field w 20 12 j) (mask_field w 7 5 j) (mask_field w 15 5 j)))
-      ∙ sym (at_access w o (eqb (fld w 14 1) 1) e (whole (op_code o) (bit_of (eqb (fld w 14 1) 1)) (sym f.0) (bit_one (fld w 14 1) (fld_lt w 14 1))))
+      ∙ sym (at_access w o (eqb (fld w 14 1) 1) e (whole (op_code o) (bit_of (eqb (fld w 14 1) 1)) (op_back (bit_and (w / 2 ^ 12) 3) q ∙ mask_field w 12 2) (bit_one (fld w 14 1) (fld_lt w 14 1))))
     where
       whole : (k b : ℕ) → k ≡ fld w 12 2 → b ≡ fld w 14 1 → fld w 12 3 ≡ k + 4 * b
       whole k b x y = omega arith
