@@ -2,7 +2,7 @@
 use Rattle.utils.proofs.Prelude.{ap, ◌∙◌, arith, length, lt-ltb, le-leb}
 use Rattle.log_lines.specs.Lines.{bad_line}
 use Rattle.log_lines.proofs.Fits.{bad_fits}
-use Rattle.abi.specs.Abi.{length_or}
+use Rattle.refusals.specs.Answer.{crossed}
 use Rattle.log_steps.proofs.Lines.{text_put}
 use Rattle.matnosoru_listing.proofs.matnosoru_bad_line.Goals as goal
 
@@ -14,4 +14,4 @@ returns c =
     let few = le-leb a.number 255 c.if-number-gt255.false in
     let fits = bad_fits a.number a.at (omega arith) (omega (arith, c.ranges.at.fits)) in
     let t = text_put (bad_line a.number a.at) fits (length out) out (c.emit_line.ensures.value, c.emit_line.ensures.out_after) c.bad_line.ensures in
-    record { value = simp (some, few) (c.length_of.ensures ∙ ap length_or t.0); out_after = simp (some, few) t.1 }
+    record { value = simp (some, few) (c.length_of.ensures ∙ ap crossed t.0); out_after = simp (some, few) t.1 }
