@@ -8,4 +8,4 @@ use Rattle.log_kinds.specs.Length.{length_of}
 -- its bytes, where its word can be written; else the refusal of the word
 abbrev pub instruction_bytes : Answer ℕ → ℕ → Answer (List ℕ)
 instruction_bytes (Ok w) n = Ok (le_bytes (length_of (n % 256)) n)
-instruction_bytes (Err m) n = Err m
+instruction_bytes (Err e) n = Err e
