@@ -14,6 +14,7 @@ use refusals::Refusal;
 use system_decoder::{CsrOp, Fence, Shape};
 
 // The word of a shape that may hold any numbers, or refusal 6, 7 or 8.
+#[tactic(auto, using(crate::proofs::System::not_refused))]
 pub fn encode_shape(ctx: Profile, shape: Shape) -> Result<u64, Refusal>
     ensures { result ≡ write_shape (checked_def ctx shape) }
 {
