@@ -1,6 +1,6 @@
 -- Laws of looking for an address, each over any list of things that have addresses; what is particular to a list is a test that antt computes.
 -- Assumes nothing.
-use Rattle.utils.proofs.Prelude.{◌≡◌, refl, sym, ap, ◌∙◌, subst, Bool, true, false, ◌&&◌, not, List, [], ◌∷◌, ℕ, arith, eqb, T, eq-eqb, ne_eqb, eqb-true}
+use Rattle.utils.proofs.Prelude.{◌≡◌, refl, sym, ap, ◌∙◌, subst, Bool, true, false, ◌&&◌, not, List, [], ◌∷◌, ℕ, eqb, T, eq-eqb, ne_eqb, eqb-true}
 use Rattle.std.proofs.Common.{Option, Some, None, Ok, Err}
 use Rattle.refusals.specs.Answer.{Answer}
 use lib.Dec.{T_not, eqb_refl}
@@ -10,7 +10,7 @@ use Rattle.csr_addresses.specs.Find.{here, find}
 
 -- ---- tests
 clash : (b : Bool) → T b → b ≡ false → ⊥
-clash true t e = let z : ◌≡◌ {A = ℕ} 0 1 = cc in omega arith
+clash true t e = cc
 clash false t e = t
 
 pub here_at : (a : ℕ) (i : Answer ℕ) → here a i ≡ true → i ≡ Ok a
@@ -64,7 +64,7 @@ module _ {X : Type 0} (idx : X → Answer ℕ) where
       step false rest q ih e = ih e
 
   pub found_in : (a : ℕ) (xs : List X) (x : X) → find idx a xs ≡ Some x → Mem x xs
-  found_in a [] x e = absurd (let z : ◌≡◌ {A = ℕ} 0 1 = cc in omega arith)
+  found_in a [] x e = let z : ⊥ = cc in absurd z
   found_in a (y ∷ xs) x e = step (here a (idx y)) (find idx a xs) (found_in a xs x) e
     where
       step : (b : Bool) (rest : Option X) → (rest ≡ Some x → Mem x xs) → elim b [ true ↦ Some y | false ↦ rest ] ≡ Some x → Mem x (y ∷ xs)

@@ -58,8 +58,8 @@ module _ (a : ℕ) where
     no_such = step (spot_def a) refl
       where
         gated : (b : Bool) (c : Csr) → gated_def b c ≡ Err NoSuch → ⊥
-        gated true c q = let z : ⊥ = cc in absurd z
-        gated false c q = let z : ⊥ = cc in absurd z
+        gated true c q = cc
+        gated false c q = cc
 
         step : (s : Option Row) → spot_def a ≡ s → (answer p s ≡ Err NoSuch) ↔ ¬ SomeProfile a
         step (Some r) e = (λ q. absurd (gated (allows_def p r.gate) r.csr q), λ n. absurd (n (with_row r e)))

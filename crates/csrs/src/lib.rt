@@ -2,7 +2,6 @@
 #![tactic(auto)]
 
 ghost use Rattle.std.specs.Prelude.{◌≡◌, ℕ};
-ghost use Rattle.refusals.specs.Answer.{Answer};
 ghost use Rattle.csr_addresses.specs.Address.{idx_def};
 ghost use Rattle.csrs.specs.Gates.{allows_def, gate_def, spot_def, decode_csr_def, available};
 ghost use Rattle.csrs.specs.Count.{count_def};
