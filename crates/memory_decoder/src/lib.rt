@@ -1,5 +1,6 @@
 // Loads and stores, the compressed ones among them, and how a word is read as one: `decode_load` and `decode_store` of Miralis's
-// src/decoder.rs, with the stack-based forms that are `todo!` there.
+// src/decoder.rs, with the stack-based forms that are `todo!` there. Loads and stores have functions of their own, with
+// Miralis's names and in its order.
 #![tactic(auto)]
 
 ghost use Rattle.std.specs.Prelude.{◌≡◌, ◌+◌, ◌%◌, ◌^◌, ◌<◌};
@@ -289,6 +290,8 @@ fn compressed_register_at(raw: usize, k: usize) -> Register
 {
     Register::from(((raw >> k) & 0b111) + 8)
 }
+
+// The immediates, each shifted and masked as the manual draws its form: a table of pieces would be walked for every word.
 
 // The immediate of a store of 32 bits.
 fn store_imm(raw: usize) -> isize

@@ -97,7 +97,8 @@ fn encode_compressed(
     }
 }
 
-// A stack-based compressed load. There is none of x0.
+// A stack-based compressed load. There is none of x0. Its two words and the store's two are four forms, so the match of the two
+// functions would only grow in one.
 fn encode_stack_load(rd: usize, imm: isize, len: Width) -> Result<u64, Refusal>
     requires { rd ≤ 31 }
     ensures { result ≡ write_of loads Load.meaning (Load.mk rd 2 imm len true false) }
@@ -143,6 +144,8 @@ fn offset(imm: isize, step: usize, limit: usize) -> Result<usize, Refusal>
         Err(Refusal::Immediate)
     }
 }
+
+// The words, each put together as the manual draws its form.
 
 // C.LW and C.SW, by `func3`.
 fn compressed_word(func3: usize, reg: usize, base: usize, imm: usize) -> u64
