@@ -12,6 +12,7 @@ use refusals::Refusal;
 
 // Writes the listing's first line to the front of a buffer: its length, or 14.
 #[unsafe(no_mangle)]
+#[tactic(auto, using(text::proofs::Fits::text_back))]
 pub extern "C" fn matnosoru_header(out: &mut [u8]) -> u64
     ensures value { result ≡ crossed (emitted header (length out.old)) }
     ensures out_after { out.new ≡ emitted_out header out.old }
@@ -41,6 +42,7 @@ fn next_line(state: &mut [u8], at: u64, log: &[u8], out: &mut [u8]) -> Result<u6
 
 // Writes the last line of a log of so many bytes that is accepted throughout.
 #[unsafe(no_mangle)]
+#[tactic(auto, using(text::proofs::Fits::text_back, log_lines::proofs::Fits::end_fits))]
 pub extern "C" fn matnosoru_end_line(at: u64, out: &mut [u8]) -> u64
     ensures value { result ≡ crossed (emitted (end_line at) (length out.old)) }
     ensures out_after { out.new ≡ emitted_out (end_line at) out.old }
@@ -50,6 +52,7 @@ pub extern "C" fn matnosoru_end_line(at: u64, out: &mut [u8]) -> u64
 
 // Writes the last line of a log with a bad record at a place; 13 where the number is not 1 to 255, 14 last.
 #[unsafe(no_mangle)]
+#[tactic(auto, using(text::proofs::Fits::text_back, log_lines::proofs::Fits::bad_fits))]
 pub extern "C" fn matnosoru_bad_line(number: u64, at: u64, out: &mut [u8]) -> u64
     ensures value { result ≡ crossed (bad_def number at (length out.old)) }
     ensures out_after { out.new ≡ bad_out number at out.old }
