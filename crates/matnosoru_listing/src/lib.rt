@@ -11,8 +11,8 @@ ghost use Rattle.matnosoru_listing.specs.Lines.{next_line, next_line_out, next_l
 use refusals::Refusal;
 
 // Writes the listing's first line to the front of a buffer: its length, or 14.
-#[unsafe(no_mangle)]
 #[tactic(auto, using(text::proofs::Fits::text_back))]
+#[unsafe(no_mangle)]
 pub extern "C" fn matnosoru_header(out: &mut [u8]) -> u64
     ensures value { result ≡ crossed (emitted header (length out.old)) }
     ensures out_after { out.new ≡ emitted_out header out.old }
@@ -41,8 +41,8 @@ fn next_line(state: &mut [u8], at: u64, log: &[u8], out: &mut [u8]) -> Result<u6
 }
 
 // Writes the last line of a log of so many bytes that is accepted throughout.
-#[unsafe(no_mangle)]
 #[tactic(auto, using(text::proofs::Fits::text_back, log_lines::proofs::Fits::end_fits))]
+#[unsafe(no_mangle)]
 pub extern "C" fn matnosoru_end_line(at: u64, out: &mut [u8]) -> u64
     ensures value { result ≡ crossed (emitted (end_line at) (length out.old)) }
     ensures out_after { out.new ≡ emitted_out (end_line at) out.old }
@@ -51,8 +51,8 @@ pub extern "C" fn matnosoru_end_line(at: u64, out: &mut [u8]) -> u64
 }
 
 // Writes the last line of a log with a bad record at a place; 13 where the number is not 1 to 255, 14 last.
-#[unsafe(no_mangle)]
 #[tactic(auto, using(text::proofs::Fits::text_back, log_lines::proofs::Fits::bad_fits))]
+#[unsafe(no_mangle)]
 pub extern "C" fn matnosoru_bad_line(number: u64, at: u64, out: &mut [u8]) -> u64
     ensures value { result ≡ crossed (bad_def number at (length out.old)) }
     ensures out_after { out.new ≡ bad_out number at out.old }
