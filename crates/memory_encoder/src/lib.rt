@@ -1,5 +1,6 @@
 // Loads and stores as words: the way back from the load and store readings of the crate `memory_decoder`. An instruction may hold any
-// numbers; one that has no word is refused.
+// numbers; one that has no word is refused. Loads and stores have functions of their own, as in `memory_decoder`: their fields differ, and
+// a word is put together as the manual draws its form.
 #![tactic(auto)]
 
 ghost use Rattle.std.specs.Prelude.{true, false, ◌≡◌, ◌<◌, ◌≤◌};
