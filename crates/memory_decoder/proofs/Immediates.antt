@@ -1,6 +1,7 @@
 -- What the code gathers of a word's bits is the immediate of the form. Assumes nothing.
 use Rattle.utils.proofs.Prelude.{◌≡◌, refl, sym, ap, ◌∙◌, subst, true, ℕ, ◌<◌, arith, leb}
-use Rattle.utils.proofs.Prelude.{lt_of_lt_of_le, pow_mono, w64, to_z, le-leb, leb-true}
+use Rattle.utils.proofs.Prelude.{lt_of_lt_of_le, pow_mono, w64, SFits, to_z, le-leb, leb-true}
+use lib.IntN.{pos}
 use mir.ValLaws.{to_z_pos}
 use Rattle.utils.specs.Signed.{signed}
 use Rattle.utils.proofs.Signed.{signed_low}
@@ -17,6 +18,9 @@ module _ (L : Layout) (ok : good L ≡ true) (small : leb (size L imm) 11 ≡ tr
 
   low : or_read w (pieces L imm) < 2048
   low = subst (λ (x : ℕ). x < 2048) (sym gathers) (lt_of_lt_of_le (read_lt L ok w imm) (pow_mono (leb-true _ _ small)))
+
+  pub unsigned_fits : SFits w64 (pos (or_read w (pieces L imm)))
+  unsigned_fits = record { sfits = omega (arith, low) }
 
   pub unsigned_is : to_z w64 (or_read w (pieces L imm)) ≡ signed 2048 (read L w imm)
   unsigned_is = to_z_pos w64 _ (omega (arith, low)) ∙ sym (signed_low 2048 _ low) ∙ ap (signed 2048) gathers

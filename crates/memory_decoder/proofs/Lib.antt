@@ -1,4 +1,5 @@
 pub mod Lengths
+pub mod Reading
 pub mod Immediates
 pub mod Accepts
 pub mod Numbers

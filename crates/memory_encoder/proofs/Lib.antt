@@ -1,4 +1,5 @@
 pub mod Funct3
+pub mod Writing
 pub mod Access
 pub mod Loads
 pub mod Stores
