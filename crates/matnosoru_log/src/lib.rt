@@ -76,7 +76,7 @@ pub extern "C" fn matnosoru_write_profile(hart: u64, flags: u64, custom: u64, ou
     put_record(record, out)
 }
 
-// Writes a record that needs no profile.
+// Writes a record that needs no profile: the answer is the number that crosses.
 fn put_record(record: Record, out: &mut [u8]) -> u64
     ensures value { result ≡ crossed (written_def (record_def empty_profile «record») (length out.old)) }
     ensures out_after { out.new ≡ written_out (record_def empty_profile «record») out.old }

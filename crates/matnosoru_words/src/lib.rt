@@ -1,4 +1,5 @@
-// The exported functions of words: the three readings, and the writing of a word and of its record. Each is thin over the crates below.
+// The exported functions of words, as C has them: the three readings, and the writing of a word and of its record. Each is thin over the
+// crates below.
 #![tactic(auto)]
 
 ghost use Rattle.std.specs.Prelude.{◌≡◌, length};

@@ -1,6 +1,6 @@
 // Loads and stores, the compressed ones among them, and how a word is read as one: `decode_load` and `decode_store` of Miralis's
-// src/decoder.rs, with the stack-based forms that are `todo!` there. Loads and stores have functions of their own, with
-// Miralis's names and in its order.
+// src/decoder.rs, with the stack-based forms that are `todo!` there. Loads and stores have types and functions of their own,
+// with Miralis's names and in its order.
 #![tactic(auto)]
 
 ghost use Rattle.std.specs.Prelude.{◌≡◌, ◌+◌, ◌%◌, ◌^◌, ◌<◌};

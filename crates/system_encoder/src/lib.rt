@@ -44,7 +44,7 @@ pub fn check(ctx: Profile, shape: Shape) -> Result<(), Refusal>
     }
 }
 
-// The same of a CSR form: 6, 7, 8 in document 01's order.
+// The same of a CSR form: 6, 7, 8 in document 01's order. Its parameters are the fields of `Shape::Access`, each tested by itself.
 fn check_access(ctx: Profile, op: CsrOp, csr: usize, rd: usize, src: usize) -> Result<(), Refusal>
     ensures { (imm : Bool) → result ≡ done (checked_def ctx (Shape.Access op imm csr rd src)) }
 {
