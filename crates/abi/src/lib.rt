@@ -2,7 +2,7 @@
 #![tactic(auto)]
 
 ghost use Rattle.std.specs.Prelude.{◌≡◌};
-ghost use Rattle.abi.specs.Abi.{profile};
+ghost use Rattle.abi.specs.Abi.{profile, length_or};
 ghost use Rattle.refusals.specs.Answer.{crossed};
 
 use profiles::Profile;
@@ -19,5 +19,15 @@ pub fn profile_of(flags: u64, custom: u64) -> Profile
 pub fn length_of(emitted: Result<usize, Refusal>) -> u64
     ensures { result ≡ crossed emitted }
 {
-    refusals::crossed(emitted.map(|len| len as u64))
+    length_or(emitted.map_err(|why| why.number()))
+}
+
+// The same where the refusal is a number, which may be any.
+pub fn length_or(emitted: Result<usize, u8>) -> u64
+    ensures { result ≡ length_or emitted }
+{
+    match emitted {
+        Ok(len) => len as u64,
+        Err(number) => refusals::high_half(number),
+    }
 }

@@ -1,5 +1,5 @@
 -- Refusals go by their numbers, and no refusal is a value. Assumes nothing.
-use Rattle.utils.proofs.Prelude.{◌≡◌, refl, sym, ap, ◌∙◌, Bool, true, List, [], ◌∷◌, ℕ, get_or, eqb, eqb-true}
+use Rattle.utils.proofs.Prelude.{◌≡◌, refl, sym, ap, ◌∙◌, Bool, true, [], ◌∷◌, ℕ, get_or, eqb, eqb-true}
 use Rattle.std.proofs.Common.{Result, Ok, Err}
 use Rattle.refusals.specs.Answer.{Answer, number_of}
 use Rattle.refusals.specs.declared.Refusal.{Refusal}

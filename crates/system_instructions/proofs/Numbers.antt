@@ -16,15 +16,15 @@ use Rattle.system_decoder.specs.System.{meaning, access_at, shape_at, legal_def}
 use Rattle.system_instructions.specs.Instruction.{inst_at, read_shape, illegal_def, own_shape, shape_for, encode_illegal_def}
 use Rattle.forms.specs.Numbers.{RefusesBy}
 use Rattle.refusals.proofs.Answers.{no_value, same_refusal}
+use Rattle.refusals.proofs.Numbers.{number_in, value_exactly, zero_exactly}
 use Rattle.system_encoder.specs.System.{write_shape}
 use Rattle.system_encoder.proofs.System.{checked_word}
 use Rattle.system_encoder.proofs.Numbers.{checking_refusals, check_numbers}
 use Rattle.system_instructions.proofs.Legal.{legal, illegal}
 
--- there is no refusal exactly where there is an instruction
-pub accepted : (r : Answer IllegalInst) → ((e : Refusal) → ¬ (r ≡ Err e)) ↔ ((i : IllegalInst) × (r ≡ Ok i))
-accepted (Ok i) = (λ _. (i, refl), λ _ e q. no_value e i (sym q))
-accepted (Err e) = (λ none. absurd (none e refl), λ t. no_value e t.0 t.1)
+-- there is no refusal, and the number is 0, exactly where there is an instruction
+pub accepted : (r : Answer IllegalInst) → (((e : Refusal) → ¬ (r ≡ Err e)) ↔ ((i : IllegalInst) × (r ≡ Ok i))) × ((number_in r ≡ 0) ↔ ((i : IllegalInst) × (r ≡ Ok i)))
+accepted r = (value_exactly r, zero_exactly r)
 
 -- the refusal of a word that has no shape
 pub shape_refusal : (w : ℕ) (e : Refusal) → shape_at w ≡ Err e → e ≡ refusal.Unknown
